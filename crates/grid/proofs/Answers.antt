@@ -1,0 +1,147 @@
+-- The row check's answer in each of its cases, and what an answer says of the rows. Assumes nothing.
+use Prim.Native.Nat.{ℕ, zero, suc, _≤_, _<_, min}
+use mathlib.Core.Path.{_≡_, refl, sym, ap, _∙_}
+use mathlib.Core.Bool.{Bool, true, false, not, _||_}
+use mathlib.Core.Logic.{_≢_}
+use mathlib.Core.List.{List}
+use native.Mathlib.Omega.{arith}
+use lib.Dec.{eqb, ltb}
+use lib.ListN.{length}
+use Rattle.grid.specs.declared.RowCheck.{RowCheck}
+use Rattle.grid.specs.declared.RowCheck.the-variants.{Fit, Refused}
+use Rattle.grid.specs.declared.Size.{Size}
+use Rattle.grid.specs.declared.DensityCount.the-variants as dc
+use Rattle.grid.specs.Channel.{over, count, pins, twoPin, density, rowsRefused}
+use Rattle.grid.specs.Answers.{numberOf, countNumber, countDensity, checkOf, countOf, kept, refusedWithin, rowCheck, densityCount}
+use Rattle.grid.specs.Working.{some}
+use Rattle.grid.proofs.Tests.{eq-eqb, ne-eqb, lt-ltb, le-ltb}
+use Rattle.grid.proofs.Rows.{rows-more}
+
+-- THE CASES
+
+module _ (top bottom : List ℕ) (most : ℕ) where
+  -- the answer with a number
+  refused-by : (k : ℕ) → refusedWithin top bottom most ≡ suc k → Refused (suc k) ≡ rowCheck top bottom most
+  unfolding rowCheck
+  refused-by k e = sym (ap (λ (n : ℕ). checkOf n (length top) (density top bottom) (twoPin top bottom)) e)
+
+  -- and what else is asked of accepted rows
+  pub refused-with : {A : Type 0} (k : ℕ) → refusedWithin top bottom most ≡ suc k → (Refused (suc k) ≡ rowCheck top bottom most) × (refusedWithin top bottom most ≡ 0 → A)
+  refused-with k e = (refused-by k e, λ z. absurd (omega arith))
+
+  -- and with none
+  pub fit-by : refusedWithin top bottom most ≡ 0 → Fit (record { columns = length top; density = density top bottom; pairs = twoPin top bottom }) ≡ rowCheck top bottom most
+  unfolding rowCheck
+  fit-by e = sym (ap (λ (n : ℕ). checkOf n (length top) (density top bottom) (twoPin top bottom)) e)
+
+  -- lengths that differ
+  pub case-4 : length top ≢ length bottom → refusedWithin top bottom most ≡ 4
+  unfolding rowsRefused
+  case-4 h = simp (ne-eqb (length top) (length bottom) h)
+
+  module _ (e : length top ≡ length bottom) where
+    -- too many columns
+    pub case-5 : min most 256 < length top → refusedWithin top bottom most ≡ 5
+    unfolding rowsRefused
+    case-5 h = simp (eq-eqb (length top) (length bottom) e, lt-ltb (min most 256) (length top) h)
+
+    module _ (l : length top ≤ min most 256) where
+      -- a number over 256
+      pub case-6 : (over top || over bottom) ≡ true → refusedWithin top bottom most ≡ 6
+      unfolding rowsRefused
+      case-6 h = simp (eq-eqb (length top) (length bottom) e, le-ltb (min most 256) (length top) l, h)
+
+      module _ (o : (over top || over bottom) ≡ false) where
+        -- a net with one pin
+        pub case-7 : some (λ v. eqb (pins top bottom v) 1) 256 ≡ true → refusedWithin top bottom most ≡ 7
+        unfolding rowsRefused
+        case-7 h = simp (eq-eqb (length top) (length bottom) e, le-ltb (min most 256) (length top) l, o, h)
+
+        -- none of these
+        pub case-0 : some (λ v. eqb (pins top bottom v) 1) 256 ≡ false → refusedWithin top bottom most ≡ 0
+        unfolding rowsRefused
+        case-0 h = simp (eq-eqb (length top) (length bottom) e, le-ltb (min most 256) (length top) l, o, h)
+
+-- each net has two pins just if none has more
+pub pairs-by : (top bottom : List ℕ) (q : Bool) → q ≡ some (λ v. ltb 2 (pins top bottom v)) 256 → not q ≡ twoPin top bottom
+unfolding twoPin
+pairs-by top bottom q e = ap not e ∙ go (eqb (count (λ v. ltb 2 (pins top bottom v)) 256) 0)
+  where
+    go : (b : Bool) → not (not b) ≡ b
+    go true = refl
+    go false = refl
+
+-- THE NUMBER
+
+number-check : (k n d : ℕ) (p : Bool) → numberOf (checkOf k n d p) ≡ k
+number-check zero n d p = refl
+number-check (suc k) n d p = refl
+
+-- the number of the row check's answer is that of the definition
+pub check-number : (top bottom : List ℕ) (most : ℕ) → numberOf (rowCheck top bottom most) ≡ refusedWithin top bottom most
+unfolding rowCheck
+check-number top bottom most = number-check (refusedWithin top bottom most) (length top) (density top bottom) (twoPin top bottom)
+
+number-count : (k d : ℕ) → countNumber (countOf k d) ≡ k
+number-count zero d = refl
+number-count (suc k) d = refl
+
+-- so is that of the density call's answer
+pub density-number : (top bottom : List ℕ) → countNumber (densityCount top bottom) ≡ rowsRefused top bottom 256
+unfolding densityCount
+density-number top bottom = number-count (rowsRefused top bottom 256) (density top bottom)
+
+-- whose figure is the density on acceptance
+pub density-figure : (top bottom : List ℕ) → rowsRefused top bottom 256 ≡ 0 → countDensity (densityCount top bottom) ≡ density top bottom
+unfolding densityCount
+density-figure top bottom e = ap (λ (k : ℕ). countDensity (countOf k (density top bottom))) e
+
+-- and 0 on refusal
+pub density-none : (top bottom : List ℕ) → rowsRefused top bottom 256 ≢ 0 → countDensity (densityCount top bottom) ≡ 0
+unfolding densityCount
+density-none top bottom n = go (rowsRefused top bottom 256) n
+  where
+    go : (k : ℕ) → k ≢ 0 → countDensity (countOf k (density top bottom)) ≡ 0
+    go zero m = absurd (m refl)
+    go (suc k) m = refl
+
+-- FOR CALLERS OF THE ROW CHECK
+
+-- rows accepted within any limit are accepted
+pub accepted : (top bottom : List ℕ) (most : ℕ) → refusedWithin top bottom most ≡ 0 → rowsRefused top bottom 256 ≡ 0
+accepted top bottom most e = rows-more top bottom (min most 256) 256 (omega arith) e
+
+-- accepted rows and their figures, as the answer `Fit` holds them
+pub record Told (top bottom : List ℕ) (most : ℕ) (s : Size) : Type 0 where
+  pub number : refusedWithin top bottom most ≡ 0
+  pub columns : s .columns ≡ length top
+  pub figure : s .density ≡ density top bottom
+  pub pairs : s .pairs ≡ twoPin top bottom
+
+-- an answer `Fit`
+pub told : (top bottom : List ℕ) (most : ℕ) (r : RowCheck) (s : Size) → r ≡ rowCheck top bottom most → r ≡ Fit s → Told top bottom most s
+unfolding rowCheck
+told top bottom most r s e f = go (refusedWithin top bottom most) refl (sym f ∙ e)
+  where
+    go : (k : ℕ) → refusedWithin top bottom most ≡ k → Fit s ≡ checkOf k (length top) (density top bottom) (twoPin top bottom) → Told top bottom most s
+    go zero n g = record { number = n; columns = (cc); figure = (cc); pairs = (cc) }
+    go (suc k) n g = absurd (let z : _≡_ {A = ℕ} 0 1 = cc in omega arith)
+
+-- an answer `Refused`
+pub refused : (top bottom : List ℕ) (most : ℕ) (r : RowCheck) (j : ℕ) → r ≡ rowCheck top bottom most → r ≡ Refused j → refusedWithin top bottom most ≢ 0
+unfolding rowCheck
+refused top bottom most r j e f n = let z : _≡_ {A = ℕ} 0 1 = cc (ap (λ (k : ℕ). checkOf k (length top) (density top bottom) (twoPin top bottom)) n) in omega arith
+
+-- the density call's answer to rows that the row check refuses
+pub count-refused : (k d : ℕ) → k ≢ 0 → dc.Refused k ≡ countOf k d
+count-refused zero d n = absurd (n refl)
+count-refused (suc k) d n = refl
+
+-- a table on acceptance
+pub kept-new : (k : ℕ) (new old : List ℕ) → k ≡ 0 → kept k new old ≡ new
+kept-new k new old e = ap (λ (j : ℕ). kept j new old) e
+
+-- and on refusal
+pub kept-old : (k : ℕ) (new old : List ℕ) → k ≢ 0 → kept k new old ≡ old
+kept-old zero new old n = absurd (n refl)
+kept-old (suc k) new old n = refl

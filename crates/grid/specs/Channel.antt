@@ -1,0 +1,85 @@
+-- Document 01, "Channel and grid": rows, pins, density, tracks; and the refusals of the rows, 4 to 7.
+-- A channel is two lists of numbers, top and bottom; 0 is no pin. The document counts columns from 1: `take c` are the columns 1 to c, `drop c` those
+-- after c, and gap c lies between them.
+use Prim.Native.Nat.{ℕ, zero, suc, _+_, _*_, _-_, max}
+use mathlib.Core.Bool.{Bool, true, false, not, _&&_, _||_}
+use mathlib.Core.List.{List, [], _∷_}
+use lib.Dec.{eqb, ltb}
+use lib.ListN.{length, take, drop}
+
+-- the one of two that a test chooses
+abbrev pub pick {ℓ} : {A : Type ℓ} → Bool → A → A → A
+pick true a b = a
+pick false a b = b
+
+-- a test as a number
+abbrev pub bit : Bool → ℕ
+bit true = 1
+bit false = 0
+
+-- how often v stands in a list
+unfoldable pub times : ℕ → List ℕ → ℕ
+times v [] = 0
+times v (x ∷ xs) = bit (eqb x v) + times v xs
+
+-- the sum of f over the numbers 1 to k
+unfoldable pub sum : (ℕ → ℕ) → ℕ → ℕ
+sum f zero = 0
+sum f (suc k) = sum f k + f (suc k)
+
+-- how many of the numbers 1 to k pass a test
+unfoldable pub count : (ℕ → Bool) → ℕ → ℕ
+count p k = sum (λ v. bit (p v)) k
+
+-- some number of a row is over 256
+unfoldable pub over : List ℕ → Bool
+over [] = false
+over (x ∷ xs) = ltb 256 x || over xs
+
+module _ (top bottom : List ℕ) where
+  -- "A net is all pins with one number": how many net v has
+  unfoldable pub pins : ℕ → ℕ
+  pins v = times v top + times v bottom
+
+  -- how many of them lie in the columns 1 to c
+  unfoldable pub left : ℕ → ℕ → ℕ
+  left c v = times v (take c top) + times v (take c bottom)
+
+  -- and after column c
+  unfoldable pub right : ℕ → ℕ → ℕ
+  right c v = times v (drop c top) + times v (drop c bottom)
+
+  -- net v has "a pin in columns 1 to c and a pin after c": it is open at gap c
+  unfoldable pub isOpen : ℕ → ℕ → Bool
+  isOpen c v = ltb 0 (left c v) && ltb 0 (right c v)
+
+  -- the count of such nets
+  unfoldable pub openAt : ℕ → ℕ
+  openAt c = count (isOpen c) 256
+
+  -- the largest count over the gaps 1 to k
+  unfoldable pub largest : ℕ → ℕ
+  largest zero = 0
+  largest (suc k) = max (largest k) (openAt (suc k))
+
+  -- "The density d is the largest count, over gaps c from 1 to n - 1 … With fewer than two columns it is 0."
+  unfoldable pub density : ℕ
+  density = largest (length top - 1)
+
+  -- each net has two pins: none has more, and refusal 7 leaves none with fewer
+  unfoldable pub twoPin : Bool
+  twoPin = eqb (count (λ v. ltb 2 (pins v)) 256) 0
+
+  -- "its tracks are d where each net has two pins, else 2d - 1"
+  unfoldable pub tracks : ℕ
+  tracks = pick twoPin density (2 * density - 1)
+
+  -- The number of the rows' refusal, 0 for none, "checked from the top down": 4 "lengths differ", 5 "over 256 columns; in `knee` over 64" (the limit is
+  -- `most`), 6 "a number over 256", 7 "a net with one pin"
+  unfoldable pub rowsRefused : (most : ℕ) → ℕ
+  rowsRefused most =
+      pick (not (eqb (length top) (length bottom))) 4
+      (pick (ltb most (length top)) 5
+      (pick (over top || over bottom) 6
+      (pick (not (eqb (count (λ v. eqb (pins v) 1) 256) 0)) 7
+      0)))

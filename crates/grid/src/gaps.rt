@@ -1,0 +1,69 @@
+// The density: a running count of the open nets from their first and last columns.
+use crate::spans::wide;
+ghost use mathlib.Core.Path.{_≡_};
+ghost use Prim.Native.Nat.{_+_, _-_, _≤_, _<_, max};
+ghost use lib.ListN.{length};
+ghost use Rattle.grid.specs.Channel.{density as densityOf};
+ghost use Rattle.grid.specs.Nets.{firstColumn, lastColumn, table};
+ghost use Rattle.grid.specs.Working.{Rows, opens, closes, ofBoth, openedBy, closedBy};
+
+// 1 for a net that opens in column c: it starts there and goes on.
+fn opening(f: u16, l: u16, c: u16) -> usize
+    ensures { λ r. ⌜ r ≡ opens f l c ⌝ }
+{
+    if f == c { if c < l { 1 } else { 0 } } else { 0 }
+}
+
+// 1 for a net that closes in column c: it ends there and began before.
+fn closing(f: u16, l: u16, c: u16) -> usize
+    ensures { λ r. ⌜ r ≡ closes f l c ⌝ }
+{
+    if l == c { if f < c { 1 } else { 0 } } else { 0 }
+}
+
+// A figure x of the top pin's net and y of the bottom pin's, one net with both pins once.
+fn of_both(p: usize, q: usize, x: usize, y: usize) -> usize
+    requires { ⌜ (x ≤ 1) × (y ≤ 1) ⌝ }
+    ensures { λ r. ⌜ r ≡ ofBoth p q x y ⌝ }
+{
+    if p == q { x } else { x + y }
+}
+
+fn larger(x: usize, y: usize) -> usize
+    ensures { λ r. ⌜ r ≡ max x y ⌝ }
+{
+    if x < y { y } else { x }
+}
+
+// The open nets right of column c, with pins of the nets p and q, where `here` are open left of it.
+fn after(here: usize, c: u16, p: usize, q: usize, first: &[u16], last: &[u16]) -> usize
+    requires size { ⌜ (p < length (now first)) × (q < length (now first)) × (p < length (now last)) × (q < length (now last)) ⌝ }
+    requires count { ⌜ (here ≤ 256) × (closedBy (now first) (now last) c p q ≤ here + openedBy (now first) (now last) c p q) ⌝ }
+    ensures { λ r. ⌜ r ≡ here + openedBy (now (first .entry)) (now (last .entry)) c p q - closedBy (now (first .entry)) (now (last .entry)) c p q ⌝ }
+{
+    let f = first[p];
+    let l = last[p];
+    let g = first[q];
+    let m = last[q];
+    let started = of_both(p, q, opening(f, l, c), opening(g, m, c));
+    let ended = of_both(p, q, closing(f, l, c), closing(g, m, c));
+    here + started - ended
+}
+
+// The density of accepted rows: the largest count over the gaps.
+pub fn largest_count(top: &[u16], bottom: &[u16], first: &[u16], last: &[u16]) -> usize
+    requires { ⌜ Rows (now top) (now bottom) × (now first ≡ table (firstColumn (now top) (now bottom))) × (now last ≡ table (lastColumn (now top) (now bottom))) ⌝ }
+    ensures { λ r. ⌜ r ≡ densityOf (now (top .entry)) (now (bottom .entry)) ⌝ }
+{
+    let mut here = 0;
+    let mut most = 0;
+    let mut i = 0;
+    let mut c = 1u16;
+    while i + 1 < top.len() {
+        here = after(here, c, wide(top[i]), wide(bottom[i]), first, last);
+        most = larger(most, here);
+        i += 1;
+        c += 1;
+    }
+    most
+}

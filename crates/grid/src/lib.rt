@@ -1,0 +1,151 @@
+// The channel and its grid: the row check, the facts of each net, the density, one column of a layout.
+mod gaps;
+mod scan;
+mod spans;
+
+ghost use mathlib.Core.Path.{_≡_};
+ghost use Rattle.grid.specs.Channel.{pins as pinsOf};
+ghost use Rattle.grid.specs.Nets.{firstColumn, lastColumn, table};
+ghost use Rattle.grid.specs.Answers.{numberOf, refusedWithin, rowCheck, kept, densityCount};
+ghost use Rattle.grid.specs.Working.{blank, Filled};
+ghost use Rattle.grid.specs.View.{columnView};
+
+// Of accepted rows: the number of columns, the density, and whether each net has two pins.
+pub struct Size {
+    pub columns: usize,
+    pub density: usize,
+    pub pairs: bool,
+}
+
+pub enum RowCheck {
+    Fit(Size),
+    Refused(u16),
+}
+
+pub enum DensityCount {
+    Is(usize),
+    Refused(u16),
+}
+
+// The number of the refusal, 0 for none.
+pub fn number_of(r: RowCheck) -> u16
+    ensures { λ k. ⌜ k ≡ numberOf r ⌝ }
+{
+    match r {
+        RowCheck::Fit(_) => 0,
+        RowCheck::Refused(k) => k,
+    }
+}
+
+// A table with zeros for all nets.
+fn zeros() -> [u16; 257]
+    ensures { λ r. ⌜ r ≡ blank ⌝ }
+{
+    [0u16; 257]
+}
+
+// The row check, with three tables of zeros for its work. Of accepted rows they hold the facts of each net after it.
+fn checked(
+    top: &[u16],
+    bottom: &[u16],
+    most: usize,
+    first: &mut [u16],
+    last: &mut [u16],
+    pins: &mut [u16],
+) -> RowCheck
+    requires { ⌜ (now first ≡ blank) × (now last ≡ blank) × (now pins ≡ blank) ⌝ }
+    ensures answer { λ r. ⌜ r ≡ rowCheck (now (top .entry)) (now (bottom .entry)) most ⌝ }
+    ensures tables { λ r. ⌜ (refusedWithin (now (top .entry)) (now (bottom .entry)) most ≡ 0 → Filled (now (top .entry)) (now (bottom .entry)) (now (first .exit)) (now (last .exit)) (now (pins .exit))) ⌝ }
+{
+    if top.len() != bottom.len() {
+        return RowCheck::Refused(4);
+    }
+    if scan::limit(most) < top.len() {
+        return RowCheck::Refused(5);
+    }
+    if scan::has_over(top) | scan::has_over(bottom) {
+        return RowCheck::Refused(6);
+    }
+    spans::fill(top, bottom, first, last, pins);
+    let tests = scan::tests(pins);
+    if tests.single {
+        return RowCheck::Refused(7);
+    }
+    RowCheck::Fit(Size {
+        columns: top.len(),
+        density: gaps::largest_count(top, bottom, first, last),
+        pairs: !tests.many,
+    })
+}
+
+// The row check. `most` is the largest number of columns; over 256 it stands for 256.
+pub fn check_rows(top: &[u16], bottom: &[u16], most: usize) -> RowCheck
+    ensures { λ r. ⌜ r ≡ rowCheck (now (top .entry)) (now (bottom .entry)) most ⌝ }
+{
+    let mut first = zeros();
+    let mut last = zeros();
+    let mut pins = zeros();
+    checked(top, bottom, most, &mut first, &mut last, &mut pins)
+}
+
+// The row check, and the first column, last column and pin count of each net, at its number, of accepted rows. Refused rows leave the tables as they are.
+pub fn net_facts(
+    top: &[u16],
+    bottom: &[u16],
+    most: usize,
+    first: &mut [u16; 257],
+    last: &mut [u16; 257],
+    pins: &mut [u16; 257],
+) -> RowCheck
+    ensures answer { λ r. ⌜ r ≡ rowCheck (now (top .entry)) (now (bottom .entry)) most ⌝ }
+    ensures first { λ r. ⌜ now (first .exit) ≡ kept (refusedWithin (now (top .entry)) (now (bottom .entry)) most) (table (firstColumn (now (top .entry)) (now (bottom .entry)))) (now (first .entry)) ⌝ }
+    ensures last { λ r. ⌜ now (last .exit) ≡ kept (refusedWithin (now (top .entry)) (now (bottom .entry)) most) (table (lastColumn (now (top .entry)) (now (bottom .entry)))) (now (last .entry)) ⌝ }
+    ensures pins { λ r. ⌜ now (pins .exit) ≡ kept (refusedWithin (now (top .entry)) (now (bottom .entry)) most) (table (pinsOf (now (top .entry)) (now (bottom .entry)))) (now (pins .entry)) ⌝ }
+{
+    let mut firsts = zeros();
+    let mut lasts = zeros();
+    let mut counts = zeros();
+    let r = checked(top, bottom, most, &mut firsts, &mut lasts, &mut counts);
+    let RowCheck::Fit(_) = r else {
+        return r;
+    };
+    *first = firsts;
+    *last = lasts;
+    *pins = counts;
+    r
+}
+
+// The density of a channel.
+pub fn density(top: &[u16], bottom: &[u16]) -> DensityCount
+    ensures { λ r. ⌜ r ≡ densityCount (now (top .entry)) (now (bottom .entry)) ⌝ }
+{
+    let r = check_rows(top, bottom, 256);
+    let RowCheck::Fit(s) = r else {
+        return DensityCount::Refused(number_of(r));
+    };
+    DensityCount::Is(s.density)
+}
+
+// Column c (from 1) of a layout of w columns and t tracks: its 2t + 1 entries, or nothing.
+pub fn column(layout: &[u16], w: usize, t: usize, c: usize) -> &[u16]
+    ensures { λ r. ⌜ now r ≡ columnView (now (layout .entry)) w t c ⌝ }
+{
+    if 511 < w {
+        return &layout[..0];
+    }
+    if 511 < t {
+        return &layout[..0];
+    }
+    let size = 2 * t + 1;
+    if layout.len() != w * size {
+        return &layout[..0];
+    }
+    if c < 1 {
+        return &layout[..0];
+    }
+    if w < c {
+        return &layout[..0];
+    }
+    let start = (c - 1) * size;
+    &layout[start..start + size]
+}
