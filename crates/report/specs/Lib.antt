@@ -1,0 +1,3 @@
+-- What the customer must believe of the net report; `Working` serves private functions alone.
+pub mod Report
+pub mod Working

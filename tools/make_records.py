@@ -1,0 +1,171 @@
+#!/usr/bin/env python3
+"""Records to try and the listings they must give.
+
+    make_records.py STREAM TEXT [COUNT]    write the records and the text expected for them
+
+STREAM is one record after another, each after a two-byte count of its bytes, little-endian;
+the count stands outside the record, so that damaged and empty records can be among them.
+TEXT is their listings, one after another. The same COUNT gives the same files.
+"""
+
+import random
+import sys
+
+from second_router import LARGEST, LISTED, listing, write_record
+
+CASES = (  # the channels to try of the scope paper
+    ([], []),
+    ([5], [5]),
+    ([1, 1], [0, 0]),
+    ([1, 2], [2, 1]),
+    ([1, 1, 0], [0, 2, 2]),
+    ([1, 1, 1], [0, 0, 0]),
+    ([1, 1, 1], [2, 2, 2]),
+    ([1, 2, 1], [2, 1, 2]),
+    ([1], [0]),
+    ([257, 257], [0, 0]),
+    ([256, 256], [0, 0]),
+)
+
+
+def split(terminals):
+    """Rows from a list of terminals, bottom and top in turn."""
+    return terminals[1::2], terminals[0::2]
+
+
+def two_pins(chance, n, fill):
+    """A channel of two-pin nets with about a share of its terminals in use."""
+    nets = int(n * fill)
+    numbers = chance.sample(range(1, LARGEST + 1), nets)
+    terminals = numbers * 2 + [0] * (2 * n - 2 * nets)
+    chance.shuffle(terminals)
+    return split(terminals)
+
+
+def many_pins(chance, n, fill, nets):
+    """A channel of a few nets with any number of pins from two up."""
+    used = min(int(2 * n * fill), 2 * n)
+    nets = min(nets, used // 2)
+    numbers = chance.sample(range(1, LARGEST + 1), nets)
+    terminals = numbers * 2
+    if nets:
+        terminals += [chance.choice(numbers) for _ in range(used - 2 * nets)]
+    terminals += [0] * (2 * n - len(terminals))
+    chance.shuffle(terminals)
+    return split(terminals)
+
+
+def crossing(chance, n):
+    """Every net starts in the left half and ends in the right half: as dense as n columns can be."""
+    left = chance.sample(range(1, LARGEST + 1), 2 * (n // 2))
+    right = left[:]
+    chance.shuffle(right)
+    return split(left + [0] * (2 * (n % 2)) + right)
+
+
+def dense_many(chance, n):
+    """As dense as n columns can be, with one net of more than two pins."""
+    top, bottom = crossing(chance, n)
+    if n > 2:
+        place = chance.randrange(n // 2, n)
+        if n % 2:
+            place = n // 2
+        top[place] = top[0]
+        counts = {number: (top + bottom).count(number) for number in top + bottom}
+        top = [number if counts[number] > 1 else 0 for number in top]
+        bottom = [number if counts[number] > 1 else 0 for number in bottom]
+    return top, bottom
+
+
+def channel(chance, n):
+    """Some channel of n columns."""
+    kind = chance.randrange(6)
+    if kind == 0:
+        return two_pins(chance, n, chance.random())
+    if kind == 1:
+        return two_pins(chance, n, 1)
+    if kind == 2:
+        return many_pins(chance, n, chance.random(), chance.randrange(1, 2 * n + 2))
+    if kind == 3:
+        return many_pins(chance, n, 1, chance.randrange(1, n + 2))
+    if kind == 4:
+        return crossing(chance, n)
+    return dense_many(chance, n)
+
+
+def sparse(chance, n):
+    """A channel with few pins, so that its listing is short."""
+    if chance.randrange(2):
+        return two_pins(chance, n, 0.2 * chance.random())
+    return many_pins(chance, n, 0.3 * chance.random(), chance.randrange(1, 6))
+
+
+def refused_rows(chance):
+    """A whole record of rows that are refused: 5, 6 or 7."""
+    kind = chance.randrange(3)
+    if kind == 0:
+        return write_record(*channel(chance, chance.randrange(LISTED + 1, LARGEST + 1)))
+    top, bottom = channel(chance, chance.randrange(1, LISTED + 1))
+    rows = chance.choice((top, bottom))
+    place = chance.randrange(len(rows))
+    if kind == 1:
+        rows[place] = chance.choice((257, 258, 511, 512, 4096, 32768, 65535))
+    else:
+        rows[place] = chance.choice([net for net in range(1, LARGEST + 1) if net not in top + bottom])
+    return write_record(top, bottom)
+
+
+def damaged(chance):
+    """A record whose bytes are not those of a channel, or perhaps are by chance."""
+    data = bytearray(write_record(*channel(chance, chance.randrange(0, 12))))
+    kind = chance.randrange(7)
+    if kind == 0:
+        return bytes(data[: chance.randrange(len(data))])
+    if kind == 1:
+        return bytes(data) + bytes(chance.randrange(1, 5))
+    if kind == 2:
+        data[chance.randrange(2)] ^= chance.randrange(1, 256)
+    elif kind == 3:
+        data[chance.choice((2, 3))] ^= chance.randrange(1, 256)
+    elif kind == 4:
+        data[chance.choice((4, 5))] ^= chance.randrange(1, 256)
+    elif kind == 5:
+        size = chance.choice((1028, 1029, 1030, 1031, 1032))
+        return (size - 2).to_bytes(2, "little") + b"\x01\x00" + (256).to_bytes(2, "little") + bytes(size - 6)
+    else:
+        body = bytes(chance.randrange(2) for _ in range(chance.randrange(8)))
+        return (len(body) + 2).to_bytes(2, "little") + chance.choice((b"\x01\x00", b"\x02\x00")) + body
+    return bytes(data)
+
+
+def records(count):
+    """The cases of the paper, every n from 0 to 64, then as many others as asked for."""
+    chance = random.Random(count)
+    made = [write_record(top, bottom) for top, bottom in CASES]
+    made += [write_record(*(channel if n < 24 else sparse)(chance, n)) for n in range(LISTED + 1)]
+    made += [write_record(*crossing(chance, LISTED)), write_record(*dense_many(chance, LISTED))]
+    for _ in range(count):
+        kind = chance.randrange(4)
+        if kind < 2:
+            made.append(write_record(*channel(chance, chance.randrange(20))))
+        elif kind == 2:
+            made.append(refused_rows(chance))
+        else:
+            made.append(damaged(chance))
+    return made
+
+
+def main(stream, text, count):
+    made = records(count)
+    with open(stream, "wb") as file:
+        for data in made:
+            file.write(len(data).to_bytes(2, "little") + data)
+    with open(text, "w", newline="\n") as file:
+        for data in made:
+            file.write(listing(data))
+
+
+if __name__ == "__main__":
+    if len(sys.argv) not in (3, 4):
+        sys.exit(__doc__)
+    main(sys.argv[1], sys.argv[2], int(sys.argv[3]) if len(sys.argv) == 4 else 240)
