@@ -1,0 +1,92 @@
+-- `checker::check_entries` meets its contract: the answer at each of its ways out.
+use Rattle.checker.proofs.Answers.{entry-at, drawn, pin-at, last-at, split-at, all-passed}
+use borrow.Author.Needs.{needs}
+use Rattle.checker.proofs.check_entries.Statement.{statement}
+use Rattle.checker.proofs.check_entries.Tie as tie
+
+find-strange-requires : tie.Need-find-strange-requires
+find-strange-requires c κs = search needs
+
+refuse-requires : tie.Need-refuse-requires
+refuse-requires c κs = search needs
+
+returns : tie.Need-returns
+returns c =
+    let start = c .before .before .before .before .before .before in
+    let a = start .args in
+    entry-at (a .top .now) (a .bottom .now) (a .w) (a .t) (a .layout .now) _ (c .before .before .find-strange .ensures) _ (c .before .if1 .taken)
+    (c .refuse .ensures)
+
+find-pin-requires : tie.Need-find-pin-requires
+find-pin-requires c κs = search needs
+
+refuse-requires-2 : tie.Need-refuse-requires-2
+refuse-requires-2 c κs = search needs
+
+returns-2 : tie.Need-returns-2
+returns-2 c =
+    let start = c .before .before .before .before .before .before .before .before in
+    let a = start .args in
+    pin-at (a .top .now) (a .bottom .now) (a .w) (a .t) (a .layout .now) _ (c .before .before .before .before .find-strange .ensures)
+    (c .before .before .before .if1 .left) _ (c .before .before .find-pin .ensures) _ (c .before .if2 .taken) (c .refuse2 .ensures)
+
+find-last-requires : tie.Need-find-last-requires
+find-last-requires c κs = search needs
+
+refuse-requires-3 : tie.Need-refuse-requires-3
+refuse-requires-3 c κs = search needs
+
+returns-3 : tie.Need-returns-3
+returns-3 c =
+    let start = c .before .before .before .before .before .before .before .before .before .before in
+    let a = start .args in
+    last-at (a .top .now) (a .bottom .now) (a .w) (a .t) (a .layout .now) _ (c .before .before .before .before .before .before .find-strange .ensures)
+    (c .before .before .before .before .before .if1 .left) _ (c .before .before .before .before .find-pin .ensures)
+    (c .before .before .before .if2 .left) _ (c .before .before .find-last .ensures) _ (c .before .if3 .taken) (c .refuse3 .ensures)
+
+find-split-requires : tie.Need-find-split-requires
+find-split-requires c κs =
+    let start = c .before .before .before .before .before .before .before .before .before in
+    let a = start .args in
+    drawn (a .top .now) (a .bottom .now) (a .w) (a .t) (a .layout .now) _ (c .before .before .before .before .before .find-strange .ensures)
+    (c .before .before .before .before .if1 .left) _ (start .pre .0) (start .pre .1 .0) (start .pre .1 .1 .0) (start .pre .1 .1 .1)
+
+refuse-requires-4 : tie.Need-refuse-requires-4
+refuse-requires-4 c κs = search needs
+
+returns-4 : tie.Need-returns-4
+returns-4 c =
+    let start = c .before .before .before .before .before .before .before .before .before .before .before .before in
+    let a = start .args in
+    split-at (a .top .now) (a .bottom .now) (a .w) (a .t) (a .layout .now) _
+    (c .before .before .before .before .before .before .before .before .find-strange .ensures)
+    (c .before .before .before .before .before .before .before .if1 .left) _ (c .before .before .before .before .before .before .find-pin .ensures)
+    (c .before .before .before .before .before .if2 .left) _ (c .before .before .before .before .find-last .ensures)
+    (c .before .before .before .if3 .left) _ (c .before .before .find-split .ensures) _ (c .before .if4 .taken) (c .refuse4 .ensures)
+
+returns-5 : tie.Need-returns-5
+returns-5 c =
+    let start = c .before .before .before .before .before .before .before .before .before .before .before in
+    let a = start .args in
+    all-passed (a .top .now) (a .bottom .now) (a .w) (a .t) (a .layout .now) _
+    (c .before .before .before .before .before .before .before .find-strange .ensures) (c .before .before .before .before .before .before .if1 .left)
+    _ (c .before .before .before .before .before .find-pin .ensures) (c .before .before .before .before .if2 .left) _
+    (c .before .before .before .find-last .ensures) (c .before .before .if3 .left) _ (c .before .find-split .ensures) (c .if4 .left)
+
+pub check-entries-spec : {M : Type 1} → statement M
+check-entries-spec =
+    tie.close
+    (tie.spec
+    find-strange-requires
+    refuse-requires
+    returns
+    find-pin-requires
+    refuse-requires-2
+    returns-2
+    find-last-requires
+    refuse-requires-3
+    returns-3
+    find-split-requires
+    refuse-requires-4
+    returns-4
+    returns-5)

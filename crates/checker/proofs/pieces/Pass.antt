@@ -1,0 +1,129 @@
+-- From one column to the next, and what the counts say at the end.
+use Prim.Native.Nat.{ℕ, suc, _+_, _*_, _/_, _≤_, _<_}
+use mathlib.Core.Path.{_≡_, sym, _∙_, ap, subst}
+use mathlib.Core.Logic.{_≢_, _↔_}
+use mathlib.Core.List.{List}
+use lib.ListN.{length, getD, List·getD-eq-default}
+use native.Mathlib.Omega.{arith}
+use native.Mathlib.Nat.{mul-div-cancel, mul-le-mul-right}
+use native.Mathlib.Numerals.{add-one}
+use Rattle.grid.specs.Grid.{verticalOf, horizontalOf, OnePiece}
+use Rattle.checker.specs.Pieces.Scan.{prev, sweep, column}
+use Rattle.checker.specs.Pieces.Edges.{netOf}
+use Rattle.checker.specs.Pieces.Exact.{labels, pieces, exact}
+use Rattle.checker.specs.Strands.{Drawn, Column, seen, Labs, Counted, State}
+use Rattle.checker.proofs.pieces.Alone.{fresh}
+use Rattle.checker.proofs.pieces.Step.{prev-zero, prev-suc, room, short}
+
+-- the column at b is number x
+index-of : (t b x : ℕ) → b ≡ x * (2 * t + 1) → b / (2 * t + 1) ≡ x
+index-of t b x e = rw e (mul-div-cancel x {n = 2 * t + 1} (omega arith))
+
+-- the labels before it
+seen-start : (D : List ℕ) (t b q x : ℕ) → b ≡ x * (2 * t + 1) → seen D t b q 0 ≡ sweep (netOf D) (length D) t x
+unfolding seen column
+seen-start D t b q x e = ap (sweep (netOf D) (length D) t) (index-of t b x e)
+
+-- and after it
+seen-end :
+    (D : List ℕ) (t b q x : ℕ) → b ≡ x * (2 * t + 1) → q ≡ prev (length D) t x → seen D t b q t ≡ sweep (netOf D) (length D) t (suc x)
+unfolding seen sweep
+seen-end D t b q x e o = rw (index-of t b x e, e, o)
+
+-- a column's position is small
+pub small-base : (D : List ℕ) (t b q : ℕ) → Column D t b q → b < 1000000
+small-base D t b q C = omega (arith, room D t b q C, short D t b q C)
+
+-- the first point: the lowest edge is its own label
+pub begin-state :
+    (D : List ℕ) (t b q : ℕ) (lab count : List ℕ) → Column D t b q → Labs D t b q 0 (seen D t b q 0) lab → Counted D (seen D t b q 0) count
+    → State D t b q 0 b lab count
+begin-state D t b q lab count C L c = record {
+  down =
+      sym
+      (rw (seen-start D t b q (C .x) (C .base))
+      (ap (sweep (netOf D) (length D) t (C .x)) (omega arith)
+      ∙ fresh (netOf D) (length D) t (C .x) b (omega (arith, room D t b q C)) (omega (arith, C .base)) .mine));
+  labs = L;
+  counted = c;
+}
+
+-- after the last point
+pub end-state :
+    (D : List ℕ) (t b q j vl : ℕ) (lab count : List ℕ) → State D t b q j vl lab count → j ≡ t
+    → Labs D t b q t (seen D t b q t) lab × Counted D (seen D t b q t) count
+end-state D t b q j vl lab count s e =
+    subst (λ (k : ℕ). Labs D t b q k (seen D t b q k) lab × Counted D (seen D t b q k) count) e (s .labs, s .counted)
+
+-- x columns are passed
+pub record Passed (D : List ℕ) (w t x b q : ℕ) (lab count : List ℕ) : Type 0 where
+  pub below : x ≤ w
+  pub base : b ≡ x * (2 * t + 1)
+  pub before : q ≡ prev (length D) t x
+  pub labs : Labs D t b q 0 (sweep (netOf D) (length D) t x) lab
+  pub counted : Counted D (sweep (netOf D) (length D) t x) count
+
+-- none at first
+pub pass-start :
+    (D : List ℕ) (w t : ℕ) (lab count : List ℕ) → length lab ≡ 512 → Counted D (λ p. p) count → Passed D w t 0 0 (length D) lab count
+unfolding sweep
+pass-start D w t lab count l c = record {
+  below = omega arith;
+  base = omega arith;
+  before = sym (prev-zero (length D) t);
+  labs = record {
+    long = l;
+    done = λ k i. absurd (omega arith);
+    todo = λ k i m n. absurd (n (List·getD-eq-default D 0 {n = length D + k} (omega arith)));
+  };
+  counted = c;
+}
+
+module _ (D : List ℕ) (w t x b q : ℕ) (lab count : List ℕ) (d : Drawn D w t) (p : Passed D w t x b q lab count) where
+  -- the next column can be taken
+  pub pass-column : x < w → Column D t b q × (Labs D t b q 0 (seen D t b q 0) lab × Counted D (seen D t b q 0) count)
+  pass-column l =
+      let e = sym (seen-start D t b q x (p .base)) in (
+        record { w = w; x = x; drawn = d; below = l; base = p .base; before = p .before },
+        (subst (λ (f : ℕ → ℕ). Labs D t b q 0 f lab) e (p .labs), subst (λ (f : ℕ → ℕ). Counted D f count) e (p .counted)),
+      )
+
+  -- its positions are small
+  pub pass-small : x < w → b + 2 * t + 1 ≤ 1000000
+  pass-small l = let C = pass-column l .0 in omega (arith, room D t b q C, short D t b q C)
+
+  -- and it is passed
+  pub pass-next :
+      (lab′ count′ : List ℕ) → x < w → Labs D t b q t (seen D t b q t) lab′ → Counted D (seen D t b q t) count′
+      → Passed D w t (x + 1) (b + 2 * t + 1) (b + t + 1) lab′ count′
+  pass-next lab′ count′ l L c =
+      let e = seen-end D t b q x (p .base) (p .before) in
+      rw (add-one x)
+      (record {
+        below = l;
+        base = omega (arith, p .base);
+        before = sym (prev-suc (length D) t x ∙ ap (λ (k : ℕ). k + t + 1) (sym (p .base)));
+        labs = record {
+          long = L .long;
+          done = λ k i. absurd (omega arith);
+          todo = λ k i m n. L .done k m ∙ ap (λ (f : ℕ → ℕ). f (b + t + 1 + k)) e;
+        };
+        counted = subst (λ (f : ℕ → ℕ). Counted D f count′) e c;
+      })
+
+  -- until all are
+  pub pass-end : w ≤ x → Counted D (sweep (netOf D) (length D) t w) count
+  pass-end l = subst (λ (k : ℕ). Counted D (sweep (netOf D) (length D) t k) count) (omega (arith, p .below)) (p .counted)
+
+-- a count of at most 1 is a net in one piece
+pub counted-exact :
+    (D : List ℕ) (w t : ℕ) (count : List ℕ) → Drawn D w t → Counted D (sweep (netOf D) (length D) t w) count → (N : ℕ) → N ≢ 0 → N ≤ 256
+    → (getD count N 0 ≤ 1) ↔ OnePiece (verticalOf D t) (horizontalOf D t) N
+unfolding pieces labels
+counted-exact D w t count d c N n l =
+    let e = exact D t w (omega (arith, d .size)) N n in
+    (λ k. e .0 (omega (arith, c .counts N l)), λ o. omega (arith, c .counts N l, e .1 o))
+
+-- a drawing within the limits is short
+pub drawn-short : (D : List ℕ) (w t : ℕ) → Drawn D w t → length D ≤ 1000000
+drawn-short D w t d = omega (arith, d .size, mul-le-mul-right (2 * t + 1) (d .wide), d .high)

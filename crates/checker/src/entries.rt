@@ -1,0 +1,98 @@
+// Tests of single entries: refusals 13 to 15.
+ghost use mathlib.Core.Path.{_≡_};
+ghost use Prim.Native.Nat.{_+_, _*_, _-_, _≤_};
+ghost use lib.ListN.{length, getD};
+ghost use Rattle.checker.specs.Check.{lowest, strange, mispinned, loose};
+ghost use Rattle.checker.specs.Entries.{Known, unknown};
+
+// An entry, 0 past the end.
+pub fn entry(layout: &[u16], i: usize) -> u16
+    ensures { λ r. ⌜ r ≡ getD (now (layout .entry)) i 0 ⌝ }
+{
+    if i < layout.len() { layout[i] } else { 0 }
+}
+
+// Whether an entry is neither 0 nor a net by the table of pin counts.
+fn stranger(e: u16, pins: &[u16; 257]) -> bool
+    ensures { λ r. ⌜ r ≡ unknown (now (pins .entry)) e ⌝ }
+{
+    if e == 0 {
+        return false;
+    }
+    if 256 < e {
+        return true;
+    }
+    let k = e as usize;
+    if pins[k] == 0 {
+        return true;
+    }
+    false
+}
+
+// The lowest entry that is neither 0 nor a net by the table, else the length.
+fn find_unknown(layout: &[u16], pins: &[u16; 257]) -> usize
+    ensures { λ r. ⌜ r ≡ lowest (length (now (layout .entry))) (λ p. unknown (now (pins .entry)) (getD (now (layout .entry)) p 0)) ⌝ }
+{
+    let mut i = 0;
+    while i < layout.len() {
+        if stranger(layout[i], pins) {
+            return i;
+        }
+        i += 1;
+    }
+    layout.len()
+}
+
+// The lowest entry that is neither 0 nor a net, else the length.
+pub fn find_strange(top: &[u16], bottom: &[u16], layout: &[u16], pins: &[u16; 257]) -> usize
+    requires { ⌜ Known (now top) (now bottom) (now pins) ⌝ }
+    ensures { λ r. ⌜ r ≡ lowest (length (now (layout .entry))) (strange (now (top .entry)) (now (bottom .entry)) (now (layout .entry))) ⌝ }
+{
+    find_unknown(layout, pins)
+}
+
+// The lowest pin entry that is not its pin, else the length.
+pub fn find_pin(top: &[u16], bottom: &[u16], w: usize, t: usize, layout: &[u16]) -> usize
+    requires { ⌜ length (now layout) ≡ w * (2 * t + 1) ⌝ }
+    requires { ⌜ w ≤ 511 ⌝ }
+    requires { ⌜ t ≤ 511 ⌝ }
+    ensures { λ r. ⌜ r ≡ lowest (length (now (layout .entry))) (mispinned (now (top .entry)) (now (bottom .entry)) t (now (layout .entry))) ⌝ }
+{
+    let s = 2 * t + 1;
+    let mut b = 0;
+    let mut x = 0;
+    while x < w {
+        if entry(layout, b) != entry(bottom, x) {
+            return b;
+        }
+        let e = b + t;
+        if entry(layout, e) != entry(top, x) {
+            return e;
+        }
+        b += s;
+        x += 1;
+    }
+    layout.len()
+}
+
+// n - t, or 0.
+fn less(n: usize, t: usize) -> usize
+    ensures { λ r. ⌜ r ≡ n - t ⌝ }
+{
+    if n < t { 0 } else { n - t }
+}
+
+// The lowest horizontal edge of the last column, else the length. They are the last t entries.
+pub fn find_last(w: usize, t: usize, layout: &[u16]) -> usize
+    requires { ⌜ length (now layout) ≡ w * (2 * t + 1) ⌝ }
+    ensures { λ r. ⌜ r ≡ lowest (length (now (layout .entry))) (loose w t (now (layout .entry))) ⌝ }
+{
+    let mut i = less(layout.len(), t);
+    while i < layout.len() {
+        if layout[i] != 0 {
+            return i;
+        }
+        i += 1;
+    }
+    layout.len()
+}

@@ -1,0 +1,128 @@
+// The checker: whether a drawing is a solution of a channel. It rests on the rules of the grid alone.
+mod entries;
+mod pieces;
+
+use grid::RowCheck;
+ghost use mathlib.Core.Path.{_≡_};
+ghost use Prim.Native.Nat.{_+_, _*_, _≤_};
+ghost use lib.ListN.{length};
+ghost use Rattle.checker.specs.Check.{numberOf, placeOf, refusal, entriesChecked, drawingChecked, checked};
+ghost use Rattle.checker.specs.Entries.{Known};
+
+// The number of a refusal, and its place: of 13 to 15 the lowest entry position, from 0, of 16 the lowest net number, else 0.
+pub struct Fault {
+    pub number: u16,
+    pub place: usize,
+}
+
+pub enum Checked {
+    Passed,
+    Refused(Fault),
+}
+
+// The number of an answer, 0 for a drawing that passes.
+pub fn number_of(c: Checked) -> u16
+    ensures { λ r. ⌜ r ≡ numberOf c ⌝ }
+{
+    match c {
+        Checked::Passed => 0,
+        Checked::Refused(f) => f.number,
+    }
+}
+
+// Its place.
+pub fn place_of(c: Checked) -> usize
+    ensures { λ r. ⌜ r ≡ placeOf c ⌝ }
+{
+    match c {
+        Checked::Passed => 0,
+        Checked::Refused(f) => f.place,
+    }
+}
+
+// A refusal.
+fn refuse(number: u16, place: usize) -> Checked
+    ensures { λ r. ⌜ r ≡ refusal number place ⌝ }
+{
+    Checked::Refused(Fault { number, place })
+}
+
+// Checks the entries and the pieces of a drawing of the right size, with the table of pin counts of accepted rows.
+fn check_entries(
+    top: &[u16],
+    bottom: &[u16],
+    w: usize,
+    t: usize,
+    layout: &[u16],
+    pins: &[u16; 257],
+) -> Checked
+    requires { ⌜ Known (now top) (now bottom) (now pins) ⌝ }
+    requires { ⌜ length (now layout) ≡ w * (2 * t + 1) ⌝ }
+    requires { ⌜ w ≤ 511 ⌝ }
+    requires { ⌜ t ≤ 511 ⌝ }
+    ensures { λ r. ⌜ r ≡ entriesChecked (now (top .entry)) (now (bottom .entry)) w t (now (layout .entry)) ⌝ }
+{
+    let e = entries::find_strange(top, bottom, layout, pins);
+    if e < layout.len() {
+        return refuse(13, e);
+    }
+    let p = entries::find_pin(top, bottom, w, t, layout);
+    if p < layout.len() {
+        return refuse(14, p);
+    }
+    let l = entries::find_last(w, t, layout);
+    if l < layout.len() {
+        return refuse(15, l);
+    }
+    let n = pieces::find_split(layout, w, t);
+    if n < 257 {
+        return refuse(16, n);
+    }
+    Checked::Passed
+}
+
+// Checks a drawing, with the table of pin counts of accepted rows.
+fn check_drawing(
+    top: &[u16],
+    bottom: &[u16],
+    w: usize,
+    t: usize,
+    layout: &[u16],
+    pins: &[u16; 257],
+) -> Checked
+    requires { ⌜ Known (now top) (now bottom) (now pins) ⌝ }
+    ensures { λ r. ⌜ r ≡ drawingChecked (now (top .entry)) (now (bottom .entry)) w t (now (layout .entry)) ⌝ }
+{
+    if w < top.len() {
+        return refuse(10, 0);
+    }
+    if 511 < w {
+        return refuse(10, 0);
+    }
+    if 511 < t {
+        return refuse(11, 0);
+    }
+    if layout.len() != w * (2 * t + 1) {
+        return refuse(12, 0);
+    }
+    check_entries(top, bottom, w, t, layout, pins)
+}
+
+// A table of zeros.
+fn zeros() -> [u16; 257] {
+    [0u16; 257]
+}
+
+// Checks a drawing of w columns and t tracks against the rows of a channel.
+pub fn check(top: &[u16], bottom: &[u16], w: usize, t: usize, layout: &[u16]) -> Checked
+    ensures { λ r. ⌜ r ≡ checked (now (top .entry)) (now (bottom .entry)) w t (now (layout .entry)) ⌝ }
+{
+    let mut first = zeros();
+    let mut last = zeros();
+    let mut pins = zeros();
+    let rows = grid::net_facts(top, bottom, 256, &mut first, &mut last, &mut pins);
+    let RowCheck::Fit(_) = rows else {
+        return refuse(grid::number_of(rows), 0);
+    };
+    check_drawing(top, bottom, w, t, layout, &pins)
+}
