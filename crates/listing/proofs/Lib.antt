@@ -1,0 +1,9 @@
+pub mod Put
+pub mod Digits
+pub mod Values
+pub mod Lines
+pub mod Size
+pub mod Front
+pub mod Examples
+pub mod Channels
+pub mod Records

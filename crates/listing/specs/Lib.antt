@@ -1,0 +1,5 @@
+pub mod Digits
+pub mod Text
+pub mod Listing
+pub mod Written
+pub mod Put

@@ -1,0 +1,20 @@
+-- Bytes put over a text from a place on: what the writers' contracts cite.
+use Prim.Native.Nat.{ℕ, _+_, _≤_}
+use mathlib.Core.Path.{_≡_}
+use mathlib.Core.List.{List, _++_}
+use lib.ListN.{length, take, drop}
+
+-- there is room for new from place at on
+pub record Room (old : List ℕ) (at : ℕ) (new : List ℕ) : Type 0 where
+  pub room : at + length new ≤ length old
+
+-- new over the bytes of old from place at on
+unfoldable pub over : List ℕ → ℕ → List ℕ → List ℕ
+over old at new = take at old ++ (new ++ drop (at + length new) old)
+
+-- the text now, after new was put at a place of the old text, and the place after it
+pub record Put (old : List ℕ) (at : ℕ) (new : List ℕ) (after : ℕ) (now : List ℕ) : Type 0 where
+  pub holds : now ≡ over old at new
+  pub ends : after ≡ at + length new
+  pub fits : after ≤ length old
+  pub keeps : length now ≡ length old

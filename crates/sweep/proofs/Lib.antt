@@ -1,0 +1,4 @@
+pub mod Solved
+pub mod Applied
+pub mod Answered
+pub mod Router

@@ -1,0 +1,13 @@
+pub mod Kinds
+pub mod Columns
+pub mod Strands
+pub mod Arrays
+pub mod Scans
+pub mod Sets
+pub mod Named
+pub mod Lowest
+pub mod Sweeps
+pub mod Sorting
+pub mod Added
+pub mod Begin
+pub mod Calls

@@ -1,0 +1,150 @@
+-- From the row check's answer and the facts of each net to what the sweep goes by, and from what it leaves to the calls' promises.
+use Prim.Native.Nat.{ℕ, zero, suc, _+_, _-_, _*_, _/_, _≤_, _<_}
+use mathlib.Core.Path.{_≡_, refl, sym, ap, subst, _∙_}
+use mathlib.Core.Bool.{Bool, not, _&&_}
+use mathlib.Core.Logic.{_≢_, ⊎-elim}
+use mathlib.Core.List.{List, _++_}
+use native.Mathlib.Nat.{mul-le-mul-right}
+use native.Mathlib.Omega.{arith}
+use lib.Dec.{eqb, ltb, leb}
+use lib.ListN.{length, drop, getD}
+use Rattle.grid.specs.Channel.{pick, times, pins, left, density, twoPin, tracks, rowsRefused}
+use Rattle.grid.specs.Nets.{firstColumn, lastColumn, table}
+use Rattle.grid.specs.Answers as rows
+use Rattle.grid.proofs.Tests.{ne-eqb, le-ltb, lt-ltb}
+use Rattle.grid.proofs.Rows.{RowsFit, rows-fit}
+use Rattle.grid.proofs.Counting.{holds-times, at-below}
+use Rattle.grid.proofs.Nets.{begun, goes-on}
+use Rattle.grid.proofs.Tables.{table-at, table-none}
+use Rattle.sweep.specs.declared.Figures.{Figures}
+use Rattle.sweep.specs.declared.Routed.{Routed}
+use Rattle.sweep.specs.declared.Routed.the-variants as routed
+use Rattle.sweep.specs.declared.Length.the-variants as stated
+use Rattle.sweep.specs.Drawing
+use Rattle.sweep.specs.Drawing.{width, layout}
+use Rattle.sweep.specs.Answers.{numberOf, figuresOf, routedBy, firstOf, sliceLength, need, refused, figures, answer, written}
+use Rattle.sweep.specs.Promise.{Solves}
+use Rattle.sweep.specs.State.{Spans, Ready, Sound}
+use Rattle.sweep.proofs.Solved.{layout-length}
+use Rattle.sweep.proofs.Applied.{tracks-most, column-applies}
+use Rattle.sweep.proofs.Answered.{answer-number, answer-figures, passes, written-refused, written-drawn, written-solution}
+use Rattle.sweep.proofs.Router.Strands.{below-or}
+
+-- ---- what the sweep goes by
+
+module _ (top bottom : List ℕ) (ok : rowsRefused top bottom 256 ≡ 0) where
+  -- what accepted rows are
+  fit : RowsFit top bottom
+  fit = rows-fit top bottom ok
+
+  -- the tables of first and last columns
+  spans : Spans top bottom (table (firstColumn top bottom)) (table (lastColumn top bottom))
+  spans = record { before = front; after = behind }
+    where
+      front : (c v : ℕ) → 0 < v → v ≤ 256
+          → ltb 0 (left top bottom c v) ≡ (not (eqb (getD (table (firstColumn top bottom)) v 0) 0) && leb (getD (table (firstColumn top bottom)) v 0) c)
+      front c v p b = rw (table-at (firstColumn top bottom) v p b) (begun top bottom v (omega arith) (fit .same) c)
+
+      behind : (c v : ℕ) → v ≤ 256 → Drawing.later top bottom c v ≡ ltb c (getD (table (lastColumn top bottom)) v 0)
+      behind c zero b = unfold Drawing.later in rw (table-none (lastColumn top bottom)) (sym (le-ltb c 0 (omega arith)))
+      behind c (suc v) b =
+          unfold Drawing.later in
+          rw (ne-eqb (suc v) 0 (λ e. omega arith), table-at (lastColumn top bottom) (suc v) (omega arith) b) (goes-on top bottom (suc v) (λ e. omega arith) (fit .same) c)
+
+  -- a row's numbers are up to 256
+  small-in : (l : List ℕ) → ((v : ℕ) → 256 < v → times v l ≡ 0) → (j : ℕ) → getD l j 0 ≤ 256
+  small-in l h j =
+      ⊎-elim (λ (q : 256 < getD l j 0). absurd (omega (arith, h (getD l j 0) q, holds-times l j (getD l j 0) (at-below l j (getD l j 0) (omega arith) refl) refl)))
+      (λ (q : getD l j 0 ≤ 256). q) (below-or 256 (getD l j 0))
+
+  pub ready : {t : ℕ} {p : Bool} {first last : List ℕ} → t ≡ tracks top bottom → p ≡ twoPin top bottom → first ≡ table (firstColumn top bottom) → last ≡ table (lastColumn top bottom)
+      → Ready top bottom first last t p
+  ready {t} {p} {first} {last} et ep ef el =
+      record {
+        two = sym ep;
+        has = sym et;
+        fits = omega (arith, tracks-most top bottom);
+        rows = sym (fit .same);
+        most = fit .short;
+        tops = small-in top (λ v h. omega (arith, none v h));
+        bottoms = small-in bottom (λ v h. omega (arith, none v h));
+        spans = rw (ef, el) spans;
+      }
+    where
+      none : (v : ℕ) → 256 < v → times v top + times v bottom ≡ 0
+      none v h = unfold pins in fit .small v h
+
+  pub sound : Sound top bottom
+  sound = column-applies top bottom ok
+
+-- ---- the calls' promises
+
+module _ (top bottom : List ℕ) where
+  -- the tracks by the row check's figures
+  pub tracks-by : (d t : ℕ) (p : Bool) → d ≡ density top bottom → p ≡ twoPin top bottom → t ≡ pick p d (2 * d - 1) → t ≡ tracks top bottom
+  unfolding tracks
+  tracks-by d t p ed ep et = cc
+
+  -- the length call refuses what the rows refuse
+  pub need-refused : (k : ℕ) → rowsRefused top bottom 256 ≡ k → k ≢ 0 → stated.Refused k ≡ need top bottom
+  unfolding need
+  need-refused zero e n = absurd (n refl)
+  need-refused (suc k) e n = sym (rw e refl)
+
+  -- and else states the slice length
+  pub need-stated : (n t m : ℕ) → rowsRefused top bottom 256 ≡ 0 → n ≡ length top → t ≡ tracks top bottom → m ≡ (n + t / 2) * (2 * t + 1) → stated.Entries m ≡ need top bottom
+  unfolding need sliceLength
+  need-stated n t m e en et em = rw (e, em, en, et) refl
+
+  -- the answer by the number of the refusal
+  answer-by : (lent k : ℕ) → refused top bottom lent ≡ k → routedBy k (figures top bottom) ≡ answer top bottom lent
+  unfolding answer
+  answer-by lent k e = ap (λ (z : ℕ). routedBy z (figures top bottom)) (sym e)
+
+  -- a routing call that is let through draws a solution
+  solves : (old : List ℕ) → refused top bottom (length old) ≡ 0 → Solves top bottom (written top bottom old) (figures top bottom)
+  unfolding figures tracks
+  solves old q = record { solution = written-solution top bottom old q; dense = refl; two = λ e. rw e refl; many = λ e. rw e refl }
+
+  pub promised : (old new : List ℕ) (r : Routed) → r ≡ answer top bottom (length old) → new ≡ written top bottom old → numberOf r ≡ 0 → Solves top bottom new (figuresOf r)
+  promised old new r er en z =
+      let q : refused top bottom (length old) ≡ 0 = sym (answer-number top bottom (length old)) ∙ sym (ap numberOf er) ∙ z in
+      let x : figuresOf r ≡ figures top bottom = ap figuresOf er ∙ answer-figures top bottom (length old) q in
+      subst (λ (y : Figures). Solves top bottom new y) (sym x) (subst (λ (l : List ℕ). Solves top bottom l (figures top bottom)) (sym en) (solves old q))
+
+  module _ (old : List ℕ) where
+    -- rows that are refused
+    pub rows-refused : (k : ℕ) → rowsRefused top bottom 256 ≡ k → k ≢ 0 → (routed.Refused k ≡ answer top bottom (length old)) × (old ≡ written top bottom old)
+    unfolding refused
+    rows-refused zero e n = absurd (n refl)
+    rows-refused (suc k) e n =
+        let q : refused top bottom (length old) ≡ suc k = ap (λ (z : ℕ). firstOf z (pick (ltb (length old) (sliceLength top bottom)) 8 0)) e in
+        (answer-by (length old) (suc k) q, sym (written-refused top bottom old (λ z. omega arith)))
+
+    -- a slice that is too short
+    pub slice-refused : rowsRefused top bottom 256 ≡ 0 → length old < sliceLength top bottom → (routed.Refused 8 ≡ answer top bottom (length old)) × (old ≡ written top bottom old)
+    unfolding refused
+    slice-refused e h =
+        let q : refused top bottom (length old) ≡ 8 = rw (e, lt-ltb (length old) (sliceLength top bottom) h) refl in
+        (answer-by (length old) 8 q, sym (written-refused top bottom old (λ z. omega arith)))
+
+    -- a channel that is drawn
+    pub drawn : (new : List ℕ) (d t w : ℕ) → rowsRefused top bottom 256 ≡ 0 → sliceLength top bottom ≤ length old → d ≡ density top bottom → t ≡ tracks top bottom → w ≡ width top bottom
+        → new ≡ layout top bottom ++ drop (w * (2 * t + 1)) old
+        → (routed.Drawn (record { density = d; tracks = t; width = w }) ≡ answer top bottom (length old)) × (new ≡ written top bottom old)
+    unfolding figures
+    drawn new d t w e h ed et ew en =
+        let q : refused top bottom (length old) ≡ 0 = passes top bottom (length old) e h in
+        let s : w * (2 * t + 1) ≡ length (layout top bottom) = cc (layout-length top bottom e) in
+        (cc (answer-by (length old) 0 q), en ∙ ap (λ (z : ℕ). layout top bottom ++ drop z old) s ∙ sym (written-drawn top bottom old q))
+
+    -- the slice length by the row check's figures
+    pub length-by : (n t m : ℕ) → n ≡ length top → t ≡ tracks top bottom → m ≡ (n + t / 2) * (2 * t + 1) → m ≡ sliceLength top bottom
+    unfolding sliceLength
+    length-by n t m en et em = cc
+
+-- no slice length passes 511 columns of 1023 entries
+pub area : (n t : ℕ) → n ≤ 256 → t ≤ 511 → (n + t / 2) * (2 * t + 1) ≤ 522753
+area n t h k =
+    let b : n + t / 2 ≤ 511 = omega arith in
+    omega (arith, mul-le-mul-right (2 * t + 1) b)

@@ -1,0 +1,259 @@
+-- What the arrays and sets say of a column, and the columns drawn so far.
+use Prim.Native.Nat.{ℕ, zero, suc, _+_, _-_, _*_, _≤_, _<_}
+use mathlib.Core.Path.{_≡_, refl, sym, ap, subst, _∙_}
+use mathlib.Core.Bool.{Bool, true, false, not, _&&_}
+use mathlib.Core.List.{List, _++_, append-assoc}
+use mathlib.Core.Logic.{inl, inr, ⊎-elim}
+use native.Mathlib.Nat.{zero-mul, suc-mul, mul-le-mul-right, add-sub-cancel-left}
+use native.Mathlib.Numerals.{add-one}
+use native.Mathlib.Omega.{arith}
+use lib.Dec.{eqb, ltb, leb}
+use borrow.Author.Tests.{eq-eqb, ne-eqb, lt-ltb, ltb-true}
+use lib.ListN.{length, take, drop, getD, length-append, length-take, length-drop, List·getD-eq-default}
+use lib.Seq.{take-at, drop-at, drop-drop}
+use Rattle.grid.specs.Channel.{pick, tracks}
+use Rattle.grid.proofs.Tests.{and-true}
+use Rattle.sets.specs.Member.{member}
+use Rattle.sweep.specs.declared.Action.{Action}
+use Rattle.sweep.specs.declared.Pin.{Pin}
+use Rattle.sweep.specs.declared.Free.{Free}
+use Rattle.sweep.specs.declared.Joint.{Joint}
+use Rattle.sweep.specs.Tracks.{second, many, after, verticals}
+use Rattle.sweep.specs.TwoPin.{chooseTwo}
+use Rattle.sweep.specs.ManyPin.{chooseMany}
+use Rattle.sweep.specs.Drawing
+use Rattle.sweep.specs.Drawing.{kindBy, freeOf, pinAt, stretchedAt, wideAt, stretchedNet, crowdedNet, jointOf, action, gap, drawn}
+use Rattle.sweep.specs.Applies.{Applies}
+use Rattle.sweep.specs.State.{tracksOf, Holds, Spans, Ready, Sorted, Next, Crowded, ToJoin, pinBy, stretchedBy, wideBy, jointBy}
+use Rattle.sweep.proofs.Router.Strands.{below-or}
+use Rattle.sweep.proofs.Router.Arrays.{length-tracks, tracks-at}
+use Rattle.sweep.proofs.Router.Lowest.{On, Marks, lowest-net, many-on, on-many}
+
+-- a kind is a number up to 3
+kind-bound : (p q : Bool) → kindBy p q ≤ 3
+kind-bound false q = omega arith
+kind-bound true true = omega arith
+kind-bound true false = omega arith
+
+-- a pin's kind is a number up to 3
+pub pin-kind : (f l a b m c v : ℕ) → pinBy f l a b m c v .kind ≤ 3
+unfolding pinBy
+pin-kind f l a b m c v = go (eqb v 0)
+  where
+    none : 0 ≤ 3
+    none = omega arith
+
+    go : (p : Bool) → pick {A = Pin} p (record { net = 0; kind = 0; low = 0; high = 0; many = 0 })
+        (record { net = v; kind = kindBy (not (eqb f 0) && leb f c) (ltb (c + 1) l); low = a; high = b; many = m }) .kind ≤ 3
+    go true = none
+    go false = kind-bound (not (eqb f 0) && leb f c) (ltb (c + 1) l)
+
+-- a net on the tracks is numbered up to 256
+pub on-small : {t : ℕ} {tr d f l h n : List ℕ} → Holds t tr d f l h n → (v : ℕ) → On v (tracksOf t d) → v ≤ 256
+on-small {t} {tr} {d} w v o =
+    subst (λ (k : ℕ). k ≤ 256) (sym (tracks-at t d (o .0) (omega (arith, o .1, length-tracks t d (w .fits) (w .sized)))) ∙ o .2) (w .nets (suc (o .0)))
+
+-- ---- a column
+
+-- a number that is not 0
+pub nonzero : (v : ℕ) → not (eqb v 0) ≡ true → 0 < v
+nonzero zero e = let z : _≡_ {A = ℕ} 0 1 = cc in absurd (omega arith)
+nonzero (suc v) e = omega arith
+
+module _ (top bottom first last : List ℕ) (sp : Spans top bottom first last) {t : ℕ} {d f low high number : List ℕ} (h : Holds t (tracksOf t d) d f low high number) (c : ℕ) where
+  -- the tracks
+  abbrev tr : List ℕ
+  tr = tracksOf t d
+
+  -- the pin by the arrays is the pin
+  pin-is : (v : ℕ) → v ≤ 256 → pinBy (getD first v 0) (getD last v 0) (getD low v 0) (getD high v 0) (getD number v 0) c v ≡ pinAt top bottom c tr v
+  unfolding pinBy pinAt
+  pin-is zero b = refl
+  pin-is (suc v) b =
+      let p : 0 < suc v = omega arith in
+      rw (sp .before c (suc v) p b, sp .after (suc c) (suc v) b, h .lows .at (suc v) p b, h .highs .at (suc v) p b, h .numbers .at (suc v) p b, add-one c)
+
+  -- so is the net of rule 2
+  joint-is : (v : ℕ) → v ≤ 256 → jointBy (getD last v 0) (getD low v 0) (second v tr) (getD high v 0) c v ≡ jointOf top bottom c tr v
+  unfolding jointBy jointOf
+  joint-is zero b = refl
+  joint-is (suc v) b =
+      let p : 0 < suc v = omega arith in
+      rw (sp .after (suc c) (suc v) b, h .lows .at (suc v) p b, h .highs .at (suc v) p b, add-one c)
+
+  module _ {s w : List ℕ} (so : Sorted last number c s w) where
+    -- a member is a net with strands
+    counted : (v : ℕ) → 0 < v → 0 < getD number v 0 → (v ≤ 256) × (0 < many v tr)
+    counted v p q =
+        ⊎-elim (λ (l : v < 257). (omega arith, subst (λ (k : ℕ). 0 < k) (h .numbers .at v p (omega arith)) q))
+        (λ (l : 257 ≤ v). let z : getD number v 0 ≡ 0 = List·getD-eq-default number 0 (omega (arith, h .numbers .sized)) in absurd (omega arith)) (below-or v 257)
+
+    -- the set of stretched nets by its test
+    stretched-marks : Marks (stretchedAt top bottom c) tr s
+    unfolding stretchedBy stretchedAt
+    stretched-marks = record { sound = λ v e. back v (sym (so v .stretched) ∙ e); whole = there }
+      where
+        back : (v : ℕ) → (not (eqb v 0) && (not (ltb c (getD last v 0)) && ltb 0 (getD number v 0))) ≡ true → (0 < v) × (stretchedAt top bottom c v ≡ true) × On v tr
+        back v e =
+            let a = and-true (not (eqb v 0)) _ e in
+            let b = and-true (not (ltb c (getD last v 0))) _ (a .1) in
+            let p : 0 < v = nonzero v (a .0) in
+            let k = counted v p (ltb-true 0 (getD number v 0) (b .1)) in
+            (p, rw (sp .after c v (k .0), b .0, a .0) refl, many-on v tr (k .1))
+
+        there : (v : ℕ) → On v tr → 0 < v → stretchedAt top bottom c v ≡ true → (v < 512) × (member s v ≡ true)
+        there v o p e =
+            let b : v ≤ 256 = on-small h v o in
+            let a = and-true (not (eqb v 0)) _ e in
+            let m : 0 < getD number v 0 = subst (λ (k : ℕ). 0 < k) (sym (h .numbers .at v p b)) (on-many v tr o) in
+            (omega arith, so v .stretched ∙ rw (a .0, sym (sp .after c v b), a .1, lt-ltb 0 (getD number v 0) m) refl)
+
+    -- the set of wide nets by its test
+    wide-marks : Marks (wideAt top bottom c tr) tr w
+    unfolding wideBy wideAt
+    wide-marks = record { sound = λ v e. back v (sym (so v .wide) ∙ e); whole = there }
+      where
+        back : (v : ℕ) → (not (eqb v 0) && (ltb c (getD last v 0) && ltb 2 (getD number v 0))) ≡ true → (0 < v) × (wideAt top bottom c tr v ≡ true) × On v tr
+        back v e =
+            let a = and-true (not (eqb v 0)) _ e in
+            let b = and-true (ltb c (getD last v 0)) _ (a .1) in
+            let p : 0 < v = nonzero v (a .0) in
+            let n : 2 < getD number v 0 = ltb-true 2 (getD number v 0) (b .1) in
+            let k = counted v p (omega arith) in
+            (p, rw (sp .after c v (k .0), b .0, sym (h .numbers .at v p (k .0)), b .1) refl, many-on v tr (k .1))
+
+        there : (v : ℕ) → On v tr → 0 < v → wideAt top bottom c tr v ≡ true → (v < 512) × (member w v ≡ true)
+        there v o p e =
+            let b : v ≤ 256 = on-small h v o in
+            let a = and-true (Drawing.later top bottom c v) _ e in
+            (omega arith, so v .wide ∙ rw (ne-eqb v 0 (λ q. omega arith), sym (sp .after c v b), a .0, h .numbers .at v p b, a .1) refl)
+
+    -- its lowest is the stretched net
+    stretched-is : (v : ℕ) → Next s 0 v → v ≡ stretchedNet top bottom c tr
+    unfolding stretchedNet
+    stretched-is v n = lowest-net (stretchedAt top bottom c) tr s v stretched-marks n
+
+    -- the net of rule 2 of a many-pin channel
+    crowded-is : (v : ℕ) → Crowded s w v → v ≡ crowdedNet top bottom c tr
+    unfolding crowdedNet
+    crowded-is v (inl n) =
+        let e : v ≡ stretchedNet top bottom c tr = stretched-is v (n .0) in
+        e ∙ sym (rw (ne-eqb (stretchedNet top bottom c tr) 0 (λ q. n .1 (e ∙ q))) refl)
+    crowded-is v (inr n) =
+        let e : stretchedNet top bottom c tr ≡ 0 = sym (stretched-is 0 (n .0)) in
+        lowest-net (wideAt top bottom c tr) tr w v wide-marks (n .1) ∙ sym (rw (eq-eqb (stretchedNet top bottom c tr) 0 e) refl)
+
+    -- the net of rule 2 is numbered up to 256
+    next-small : (u : List ℕ) (p : ℕ → Bool) (v : ℕ) → Marks p tr u → Next u 0 v → v ≤ 256
+    next-small u p zero m n = omega arith
+    next-small u p (suc v) m n =
+        let e : suc v ≡ n .place = omega (arith, n .is, n .least .high) in
+        on-small h (suc v) (m .sound (suc v) (ap (member u) e ∙ n .least .found (omega arith)) .2)
+
+    -- a stretched net is numbered up to 256
+    pub stretched-small : (v : ℕ) → Next s 0 v → v ≤ 256
+    stretched-small v n = next-small s (stretchedAt top bottom c) v stretched-marks n
+
+    -- so is a crowded one
+    pub crowded-small : (v : ℕ) → Crowded s w v → v ≤ 256
+    crowded-small v (inl n) = stretched-small v (n .0)
+    crowded-small v (inr n) = next-small w (wideAt top bottom c tr) v wide-marks (n .1)
+
+    -- the net of rule 2 is numbered up to 256
+    pub join-small : (v : ℕ) (pairs : Bool) → ToJoin s w v pairs → v ≤ 256
+    join-small v true n = stretched-small v n
+    join-small v false n = crowded-small v n
+
+-- a column of a two-pin channel, from what its functions found
+module _ (top bottom first last : List ℕ) {t : ℕ} {d f low high number s w : List ℕ} (c : ℕ) (A B : Pin) (free : Free) (v : ℕ) (N : Joint) (x : Action)
+    (h : Holds t (tracksOf t d) d f low high number) (so : Sorted last number c s w)
+    (ea : A ≡ pinBy (getD first (getD top c 0) 0) (getD last (getD top c 0) 0) (getD low (getD top c 0) 0) (getD high (getD top c 0) 0) (getD number (getD top c 0) 0) c (getD top c 0))
+    (eb : B ≡ pinBy (getD first (getD bottom c 0) 0) (getD last (getD bottom c 0) 0) (getD low (getD bottom c 0) 0) (getD high (getD bottom c 0) 0) (getD number (getD bottom c 0) 0) c (getD bottom c 0))
+    (ef : free ≡ freeOf (tracksOf t d))
+    (en : N ≡ jointBy (getD last v 0) (getD low v 0) (second v (tracksOf t d)) (getD high v 0) c v) where
+  pub column-is : Ready top bottom first last t true → Next s 0 v → x ≡ chooseTwo t A B free N → x ≡ action top bottom c (tracksOf t d)
+  unfolding action
+  column-is r nx ex =
+      let p : A ≡ pinAt top bottom c (tracksOf t d) (getD top c 0) = ea ∙ pin-is top bottom first last (r .spans) h c (getD top c 0) (r .tops c) in
+      let q : B ≡ pinAt top bottom c (tracksOf t d) (getD bottom c 0) = eb ∙ pin-is top bottom first last (r .spans) h c (getD bottom c 0) (r .bottoms c) in
+      let n : N ≡ jointOf top bottom c (tracksOf t d) (stretchedNet top bottom c (tracksOf t d)) =
+      en ∙ joint-is top bottom first last (r .spans) h c v (stretched-small top bottom first last (r .spans) h c so v nx)
+      ∙ ap (jointOf top bottom c (tracksOf t d)) (stretched-is top bottom first last (r .spans) h c so v nx) in
+      rw (r .two, r .has) (cc)
+
+  -- and of a many-pin channel
+  pub column-many-is : Ready top bottom first last t false → Crowded s w v → (b : Bool) → b ≡ ltb (c + 1) (getD last (getD top c 0) 0)
+      → x ≡ chooseMany t A B free N b → x ≡ action top bottom c (tracksOf t d)
+  unfolding action
+  column-many-is r nx b el ex =
+      let p : A ≡ pinAt top bottom c (tracksOf t d) (getD top c 0) = ea ∙ pin-is top bottom first last (r .spans) h c (getD top c 0) (r .tops c) in
+      let q : B ≡ pinAt top bottom c (tracksOf t d) (getD bottom c 0) = eb ∙ pin-is top bottom first last (r .spans) h c (getD bottom c 0) (r .bottoms c) in
+      let n : N ≡ jointOf top bottom c (tracksOf t d) (crowdedNet top bottom c (tracksOf t d)) =
+      en ∙ joint-is top bottom first last (r .spans) h c v (crowded-small top bottom first last (r .spans) h c so v nx)
+      ∙ ap (jointOf top bottom c (tracksOf t d)) (crowded-is top bottom first last (r .spans) h c so v nx) in
+      let l : b ≡ Drawing.later top bottom (suc c) (getD top c 0) = el ∙ ap (λ (k : ℕ). ltb k (getD last (getD top c 0) 0)) (add-one c) ∙ sym (r .spans .after (suc c) (getD top c 0) (r .tops c)) in
+      rw (r .two, r .has) (cc)
+
+-- ---- one column after another
+
+-- one column more fits
+pub fits-next : (n i each : ℕ) → i < n → i * each + each ≤ n * each
+fits-next n i each h = subst (λ (x : ℕ). x ≤ n * each) (suc-mul i each) (mul-le-mul-right each h)
+
+-- where the next column begins
+pub at-next : (at i each : ℕ) → at ≡ i * each → at + each ≡ (i + 1) * each
+at-next at i each e = cc (add-one i, suc-mul i each)
+
+-- the column's action gives free tracks of the arrays
+pub applies-at : (top bottom : List ℕ) (c : ℕ) (x : Action) {t : ℕ} {tr a f l h n : List ℕ} → Holds t tr a f l h n → x ≡ action top bottom c (tracksOf t a) → Applies (action top bottom c tr) tr → Applies x (tracksOf t a)
+applies-at top bottom c x {t} {tr} {a} w e p =
+    subst (λ (z : Action). Applies z (tracksOf t a)) (sym e) (subst (λ (z : List ℕ). Applies (action top bottom c z) z) (sym (w .is)) p)
+
+-- the arrays hold the next gap
+pub gap-next : (top bottom : List ℕ) (i : ℕ) (x : Action) {t : ℕ} {a f l h n a′ f′ l′ h′ n′ : List ℕ} → Holds t (gap top bottom i) a f l h n → x ≡ action top bottom i (tracksOf t a)
+    → Holds t (after x (tracksOf t a)) a′ f′ l′ h′ n′ → Holds t (gap top bottom (i + 1)) a′ f′ l′ h′ n′
+unfolding gap
+gap-next top bottom i x {t} {a} {f} {l} {h} {n} {a′} {f′} {l′} {h′} {n′} w e u =
+    let s : after x (tracksOf t a) ≡ after (action top bottom i (gap top bottom i)) (gap top bottom i) = cc in
+    rw add-one (subst (λ (z : List ℕ). Holds t z a′ f′ l′ h′ n′) s u)
+
+-- a column's part of the layout
+pub part-length : (l : List ℕ) (at each : ℕ) → at + each ≤ length l → length (take (at + each - at) (drop at l)) ≡ each
+part-length l at each h = simp (length-take, length-drop) (omega arith)
+
+-- one column more is drawn
+drawn-suc : (top bottom : List ℕ) (i : ℕ) → drawn top bottom (i + 1) ≡ drawn top bottom i ++ (verticals (tracks top bottom) (action top bottom i (gap top bottom i)) ++ gap top bottom (i + 1))
+unfolding drawn
+drawn-suc top bottom i = rw add-one
+
+-- the entries of column i + 1, as the writer leaves them
+pub column-next : (top bottom : List ℕ) (i : ℕ) (x : Action) (ys : List ℕ) {t : ℕ} {a f l h n a′ f′ l′ h′ n′ : List ℕ} → tracks top bottom ≡ t → Holds t (gap top bottom i) a f l h n → x ≡ action top bottom i (tracksOf t a)
+    → Holds t (gap top bottom (i + 1)) a′ f′ l′ h′ n′ → ys ≡ verticals t x ++ tracksOf t a′
+    → drawn top bottom (i + 1) ≡ drawn top bottom i ++ ys
+column-next top bottom i x ys {t} {a} {f} {l} {h} {n} {a′} et w e u y =
+    let s : ys ≡ verticals (tracks top bottom) (action top bottom i (gap top bottom i)) ++ gap top bottom (i + 1) = cc (u .is, w .is) in
+    drawn-suc top bottom i ∙ ap (λ (z : List ℕ). drawn top bottom i ++ z) (sym s)
+
+-- its entries
+pub length-next : (top bottom : List ℕ) (i each : ℕ) (ys : List ℕ) → length (drawn top bottom i) ≡ i * each → length ys ≡ each → drawn top bottom (i + 1) ≡ drawn top bottom i ++ ys
+    → length (drawn top bottom (i + 1)) ≡ (i + 1) * each
+length-next top bottom i each ys e f g = ap length g ∙ length-append (drawn top bottom i) ys ∙ cc (add-one i, suc-mul i each)
+
+-- the layout then
+pub layout-next : (top bottom l₀ l ys : List ℕ) (i at each : ℕ) → at ≡ i * each → l ≡ drawn top bottom i ++ drop (i * each) l₀ → length (drawn top bottom i) ≡ i * each
+    → drawn top bottom (i + 1) ≡ drawn top bottom i ++ ys
+    → take at l ++ (ys ++ drop (at + each - at) (drop at l)) ≡ drawn top bottom (i + 1) ++ drop ((i + 1) * each) l₀
+layout-next top bottom l₀ l ys i at each ea el en ed =
+    let D : List ℕ = drawn top bottom i in
+    let R : List ℕ = drop (i * each) l₀ in
+    let len : length D ≡ at = en ∙ sym ea in
+    let t1 : take at l ≡ D = ap (take at) el ∙ take-at D R at len in
+    let d1 : drop at l ≡ R = ap (drop at) el ∙ drop-at D R at len in
+    let n1 : at + each - at ≡ each = add-sub-cancel-left at each in
+    let r1 : drop each R ≡ drop ((i + 1) * each) l₀ = drop-drop each (i * each) l₀ ∙ ap (λ (z : ℕ). drop z l₀) (ap (λ (z : ℕ). z + each) (sym ea) ∙ at-next at i each ea) in
+    let whole : take at l ++ (ys ++ drop (at + each - at) (drop at l)) ≡ D ++ (ys ++ drop ((i + 1) * each) l₀) = cc in
+    whole ∙ sym (append-assoc D ys (drop ((i + 1) * each) l₀)) ∙ ap (λ (z : List ℕ). z ++ drop ((i + 1) * each) l₀) (sym ed)
+
+-- nothing is drawn yet
+pub none-drawn : (l : List ℕ) (each : ℕ) → l ≡ drop (0 * each) l
+none-drawn l each = rw zero-mul

@@ -1,0 +1,5 @@
+pub mod Good
+pub mod Free
+pub mod Ends
+pub mod Continues
+pub mod Joins

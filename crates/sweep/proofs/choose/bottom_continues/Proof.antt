@@ -1,0 +1,28 @@
+-- `bottom_continues` meets its contract.
+use Rattle.sweep.specs.ManyPin
+use borrow.Author.Tests.{lt-ltb, le-ltb}
+use borrow.Author.Needs.{needs}
+use Rattle.sweep.proofs.choose.bottom_continues.Statement.{statement}
+use Rattle.sweep.proofs.choose.bottom_continues.Tie as tie
+
+pins-to-requires : tie.Need-pins-to-requires
+pins-to-requires c κs = search needs
+
+returns : tie.Need-returns
+unfolding ManyPin.bottomContinues
+returns c = simp (lt-ltb _ _ (c .before .if1 .taken)) (c .pins-to .ensures)
+
+track-if-more-requires : tie.Need-track-if-more-requires
+track-if-more-requires c κs = search needs
+
+pins-to-requires-2 : tie.Need-pins-to-requires-2
+pins-to-requires-2 c κs = search needs
+
+returns-2 : tie.Need-returns-2
+unfolding ManyPin.bottomContinues
+returns-2 c = simp (le-ltb _ _ (c .before .before .if1 .left)) (cc)
+
+pub bottom-continues-spec : {M : Type 1} → statement M
+bottom-continues-spec =
+    tie.close
+    (tie.spec pins-to-requires returns track-if-more-requires pins-to-requires-2 returns-2)

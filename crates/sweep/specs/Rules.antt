@@ -1,0 +1,109 @@
+-- Document 01: the actions that the rules of both sweeps use.
+-- A is the column's top pin, B its bottom pin, f the two lowest free tracks, N the net of rule 2.
+use Prim.Native.Nat.{ℕ, zero, suc}
+use mathlib.Core.Bool.{Bool, true, false}
+use lib.Dec.{eqb, ltb}
+use Rattle.grid.specs.Channel.{pick}
+use Rattle.sweep.specs.declared.Action.{Action}
+use Rattle.sweep.specs.declared.Pin.{Pin}
+use Rattle.sweep.specs.declared.Free.{Free}
+use Rattle.sweep.specs.declared.Joint.{Joint}
+
+-- "A pin starts, ends or continues its net; with "none" these are four kinds."
+pub data Kind : Type 0 where
+  none starts continues ends : Kind
+
+-- the kinds as numbers: 0 none, 1 starts, 2 continues, 3 ends
+unfoldable pub kindOf : ℕ → Kind
+kindOf zero = none
+kindOf (suc zero) = starts
+kindOf (suc (suc zero)) = continues
+kindOf (suc (suc (suc k))) = ends
+
+-- the bottom net b up to row q, the top net a down to row p; the strands of e and c end; then a track for a net, three times (track 0: none)
+abbrev pub pinsTo : (b q a p e c t1 n1 t2 n2 t3 n3 : ℕ) → Action
+pinsTo b q a p e c t1 n1 t2 n2 t3 n3 =
+    record {
+      bottom = b;
+      low = q;
+      middle = 0;
+      start = q;
+      stop = q;
+      top = a;
+      high = p;
+      ended = e;
+      closed = c;
+      track1 = t1;
+      net1 = n1;
+      track2 = t2;
+      net2 = n2;
+      track3 = t3;
+      net3 = n3;
+    }
+
+-- "No pins: all straight."
+abbrev pub straight : Action
+straight = pinsTo 0 0 0 0 0 0 0 0 0 0 0 0
+
+-- "a vertical from row 0 to t + 1" of net v: its strands end, and it leaves on track y (0: it does not)
+abbrev pub full : (t v y : ℕ) → Action
+full t v y = pinsTo v (suc t) v (suc t) v 0 y v 0 0 0 0
+
+-- track y for net v, and none where v is 0
+abbrev pub taken : (v y : ℕ) → ℕ
+taken v y = pick (eqb v 0) 0 y
+
+-- "join its two tracks a < b; a top pin takes b, a bottom pin takes a"; "Join its strands, lowest a, highest b. A top pin of another net adds strand b to
+-- that net, a bottom pin a. A pin of N joins N. If N has later pins it leaves on its second lowest strand, else it is done."
+-- a and b are here the nets of the top and the bottom pin
+abbrev pub joinNet : Joint → (a b : ℕ) → Action
+joinNet N a b =
+    record {
+      bottom = b;
+      low = N .low;
+      middle = N .net;
+      start = N .low;
+      stop = N .high;
+      top = a;
+      high = N .high;
+      ended = N .net;
+      closed = 0;
+      track1 = pick (eqb b (N .net)) 0 (taken b (N .low));
+      net1 = b;
+      track2 = pick (eqb a (N .net)) 0 (taken a (N .high));
+      net2 = a;
+      track3 = pick (N .later) (N .second) 0;
+      net3 = N .net;
+    }
+
+-- "one pin takes the lowest free track": the top pin of net a, the bottom pin of net b
+abbrev pub topTakesFree : Free → (a : ℕ) → Action
+topTakesFree f a = pinsTo 0 0 a (f .first) 0 0 (f .first) a 0 0 0 0
+
+abbrev pub bottomTakesFree : Free → (b : ℕ) → Action
+bottomTakesFree f b = pinsTo b (f .first) 0 (f .first) 0 0 (f .first) b 0 0 0 0
+
+-- "of two pins the top takes the higher of the two lowest free"
+abbrev pub bothTakeFree : Free → (a b : ℕ) → Action
+bothTakeFree f a b = pinsTo b (f .first) a (f .second) 0 0 (f .first) b (f .second) a 0 0
+
+-- "An ending pin alone joins its strand. With a starting pin opposite, the starting net takes the ended net's track"; "The top net joins all strands up to
+-- its pin, and the bottom pin's net adds the lowest of them"
+abbrev pub topEnds : (A B : Pin) → Action
+topEnds A B = pinsTo (B .net) (A .low) (A .net) (A .low) (A .net) 0 (taken (B .net) (A .low)) (B .net) 0 0 0 0
+
+-- "mirrored, the bottom net joins down and the top pin's net adds the highest"
+abbrev pub bottomEnds : (A B : Pin) → Action
+bottomEnds A B = pinsTo (B .net) (B .high) (A .net) (B .high) (B .net) 0 (taken (A .net) (B .high)) (A .net) 0 0 0 0
+
+-- "If both end and all the bottom net's strands lie below all the top net's, both join"
+abbrev pub bothJoin : (A B : Pin) → Action
+bothJoin A B = pinsTo (B .net) (B .high) (A .net) (A .low) (A .net) (B .net) 0 0 0 0 0 0
+
+-- "all the bottom net's strands lie below all the top net's"
+abbrev pub liesBelow : (A B : Pin) → Bool
+liesBelow A B = ltb (B .high) (A .low)
+
+-- "If s < r both join. Else the top net joins and the bottom net takes r beside s: it is stretched"; "Else the top net ends if its pin is an ending one"
+unfoldable pub bothEnd : (A B : Pin) → Action
+bothEnd A B = pick (liesBelow A B) (bothJoin A B) (topEnds A B)

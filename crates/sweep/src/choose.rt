@@ -1,0 +1,239 @@
+// The rules of both sweeps: what a column does, from its pins, the free tracks and the net of rule 2.
+use crate::Action;
+use crate::Free;
+use crate::Joint;
+use crate::Pin;
+use crate::actions;
+ghost use mathlib.Core.Path.{_≡_};
+ghost use Prim.Native.Nat.{_≤_};
+ghost use lib.Dec.{eqb};
+ghost use Rattle.grid.specs.Channel.{pick};
+ghost use Rattle.sweep.specs.Rules.{kindOf};
+ghost use Rattle.sweep.specs.TwoPin.{chooseTwo, joinOr, byKinds as byTwo};
+ghost use Rattle.sweep.specs.ManyPin.{chooseMany, topContinues, bottomContinues, bothContinue, bothPins, byKinds as byMany};
+
+// Rule 2 of two-pin channels: the stretched net is joined, and where there is none the action on free tracks is taken.
+pub fn join_or(n: Joint, a: u16, b: u16, other: Action) -> Action
+    ensures { λ r. ⌜ r ≡ joinOr n a b other ⌝ }
+{
+    if n.net == 0 {
+        other
+    } else {
+        actions::join_net(n, a, b)
+    }
+}
+
+// What a column of a two-pin channel does by its pair of kinds, where its pins are of two nets.
+pub fn kinds_two(a: Pin, b: Pin, f: Free, n: Joint) -> Action
+    requires { ⌜ (a .kind ≤ 3) × (b .kind ≤ 3) ⌝ }
+    ensures { λ r. ⌜ r ≡ byTwo a b f n (kindOf (a .kind)) (kindOf (b .kind)) ⌝ }
+{
+    match 4 * a.kind + b.kind {
+        1 => join_or(n, a.net, b.net, actions::bottom_takes_free(f, b.net)),
+        2 => actions::go_straight(),
+        3 => actions::bottom_ends(a, b),
+        4 => join_or(n, a.net, b.net, actions::top_takes_free(f, a.net)),
+        5 => join_or(n, a.net, b.net, actions::both_take_free(f, a.net, b.net)),
+        6 => actions::go_straight(),
+        7 => actions::bottom_ends(a, b),
+        8 => actions::go_straight(),
+        9 => actions::go_straight(),
+        10 => actions::go_straight(),
+        11 => actions::go_straight(),
+        12 => actions::top_ends(a, b),
+        13 => actions::top_ends(a, b),
+        14 => actions::go_straight(),
+        15 => actions::both_end(a, b),
+        _ => actions::go_straight(),
+    }
+}
+
+pub fn choose_two(t: u16, a: Pin, b: Pin, f: Free, n: Joint) -> Action
+    requires { ⌜ (t ≤ 511) × (a .kind ≤ 3) × (b .kind ≤ 3) ⌝ }
+    ensures { λ r. ⌜ r ≡ chooseTwo t a b f n ⌝ }
+{
+    if a.net == 0 {
+        return kinds_two(a, b, f, n);
+    }
+    if a.net == b.net {
+        return actions::go_full(t, a.net, 0);
+    }
+    kinds_two(a, b, f, n)
+}
+
+// A continuing top net opposite a starting one, or opposite a continuing one where neither has two strands.
+pub fn top_continues(a: Pin, b: Pin, f: Free) -> Action
+    ensures { λ r. ⌜ r ≡ topContinues a b f ⌝ }
+{
+    if f.first < a.high {
+        return actions::pins_to(
+            b.net,
+            f.first,
+            a.net,
+            a.high,
+            0,
+            0,
+            f.first,
+            b.net,
+            0,
+            0,
+            0,
+            0,
+        );
+    }
+    actions::pins_to(
+        b.net,
+        a.high,
+        a.net,
+        a.high,
+        a.net,
+        0,
+        f.first,
+        a.net,
+        a.high,
+        b.net,
+        track_if_more(a.many, a.low),
+        a.net,
+    )
+}
+
+pub fn bottom_continues(a: Pin, b: Pin, f: Free) -> Action
+    ensures { λ r. ⌜ r ≡ bottomContinues a b f ⌝ }
+{
+    if b.low < f.first {
+        return actions::pins_to(
+            b.net,
+            b.low,
+            a.net,
+            f.first,
+            0,
+            0,
+            f.first,
+            a.net,
+            0,
+            0,
+            0,
+            0,
+        );
+    }
+    actions::pins_to(
+        b.net,
+        b.low,
+        a.net,
+        b.low,
+        b.net,
+        0,
+        f.first,
+        b.net,
+        b.low,
+        a.net,
+        track_if_more(b.many, b.high),
+        b.net,
+    )
+}
+
+// Track y, and none where its net has one strand.
+pub fn track_if_more(many: u16, y: u16) -> u16
+    ensures { λ r. ⌜ r ≡ pick (eqb many 1) 0 y ⌝ }
+{
+    if many == 1 { 0 } else { y }
+}
+
+pub fn both_continue(a: Pin, b: Pin, f: Free) -> Action
+    ensures { λ r. ⌜ r ≡ bothContinue a b f ⌝ }
+{
+    if b.low < a.high {
+        return actions::pins_to(b.net, b.low, a.net, a.high, 0, 0, 0, 0, 0, 0, 0, 0);
+    }
+    if a.many == 2 {
+        return actions::pins_to(
+            b.net,
+            a.low,
+            a.net,
+            a.low,
+            a.net,
+            0,
+            a.high,
+            a.net,
+            a.low,
+            b.net,
+            0,
+            0,
+        );
+    }
+    if b.many == 2 {
+        return actions::pins_to(
+            b.net,
+            b.high,
+            a.net,
+            b.high,
+            b.net,
+            0,
+            b.low,
+            b.net,
+            b.high,
+            a.net,
+            0,
+            0,
+        );
+    }
+    top_continues(a, b, f)
+}
+
+// What a column of a many-pin channel does by its pair of kinds, where rules 1 and 2 do not fit.
+pub fn kinds_many(a: Pin, b: Pin, f: Free) -> Action
+    requires { ⌜ (a .kind ≤ 3) × (b .kind ≤ 3) ⌝ }
+    ensures { λ r. ⌜ r ≡ byMany a b f (kindOf (a .kind)) (kindOf (b .kind)) ⌝ }
+{
+    match 4 * a.kind + b.kind {
+        1 => actions::bottom_takes_free(f, b.net),
+        2 => actions::pins_to(b.net, b.low, a.net, b.low, 0, 0, 0, 0, 0, 0, 0, 0),
+        3 => actions::bottom_ends(a, b),
+        4 => actions::top_takes_free(f, a.net),
+        5 => actions::both_take_free(f, a.net, b.net),
+        6 => bottom_continues(a, b, f),
+        7 => actions::bottom_ends(a, b),
+        8 => actions::pins_to(b.net, 0, a.net, a.high, 0, 0, 0, 0, 0, 0, 0, 0),
+        9 => top_continues(a, b, f),
+        10 => both_continue(a, b, f),
+        11 => actions::bottom_ends(a, b),
+        12 => actions::top_ends(a, b),
+        13 => actions::top_ends(a, b),
+        14 => actions::top_ends(a, b),
+        15 => actions::both_end(a, b),
+        _ => actions::go_straight(),
+    }
+}
+
+// One net with both pins in the column.
+pub fn both_pins(t: u16, a: Pin, f: Free, n: Joint, later: bool) -> Action
+    requires { ⌜ t ≤ 511 ⌝ }
+    ensures { λ r. ⌜ r ≡ bothPins t a f n later ⌝ }
+{
+    if 0 < a.many {
+        return actions::go_full(t, a.net, actions::track_later(later, a.low));
+    }
+    if later {
+        if n.net == 0 {
+            return actions::go_full(t, a.net, f.first);
+        }
+        return actions::join_net(n, a.net, a.net);
+    }
+    actions::go_full(t, a.net, 0)
+}
+
+pub fn choose_many(t: u16, a: Pin, b: Pin, f: Free, n: Joint, later: bool) -> Action
+    requires { ⌜ (t ≤ 511) × (a .kind ≤ 3) × (b .kind ≤ 3) ⌝ }
+    ensures { λ r. ⌜ r ≡ chooseMany t a b f n later ⌝ }
+{
+    if a.net == b.net {
+        if a.net == 0 {
+            return actions::go_straight();
+        }
+        return both_pins(t, a, f, n, later);
+    }
+    if n.net == 0 {
+        return kinds_many(a, b, f);
+    }
+    actions::join_net(n, a.net, b.net)
+}

@@ -1,0 +1,106 @@
+// The columns 1 to n.
+use crate::Action;
+use crate::choose;
+use crate::index;
+use crate::nets;
+use crate::pins;
+use crate::writer;
+ghost use mathlib.Core.Path.{_≡_};
+ghost use Prim.Native.Nat.{_+_, _*_, _<_, _≤_};
+ghost use lib.ListN.{length, drop};
+ghost use mathlib.Core.List.{_++_};
+ghost use Rattle.sweep.specs.Drawing.{action, gap, drawn};
+ghost use Rattle.sweep.specs.State.{tracksOf, Holds, Sorted, Ready, Sound};
+
+// What column c + 1 does; pairs says whether each net has two pins.
+fn column_at(
+    top: &[u16],
+    bottom: &[u16],
+    c: usize,
+    first: &[u16; 257],
+    last: &[u16; 257],
+    tracks: &[u16; 512],
+    free: &[u64; 8],
+    low: &[u16; 257],
+    high: &[u16; 257],
+    many: &[u16; 257],
+    stretched: &[u64; 8],
+    wide: &[u64; 8],
+    t: usize,
+    pairs: bool,
+) -> Action
+    requires { ⌜ c < length (now top) ⌝ }
+    requires { ⌜ Ready (now top) (now bottom) (now first) (now last) t pairs ⌝ }
+    requires { ⌜ Holds t (tracksOf t (now tracks)) (now tracks) (now free) (now low) (now high) (now many) ⌝ }
+    requires { ⌜ Sorted (now last) (now many) c (now stretched) (now wide) ⌝ }
+    ensures { λ r. ⌜ r ≡ action (now (top .entry)) (now (bottom .entry)) c (tracksOf t (now (tracks .entry))) ⌝ }
+{
+    let k = c as u16;
+    let p = top[c];
+    let a = pins::pin_at(first, last, low, high, many, k, p);
+    let b = pins::pin_at(first, last, low, high, many, k, bottom[c]);
+    let f = nets::free_tracks(free);
+    let v = nets::net_to_join(stretched, wide, pairs);
+    let n = nets::joint_at(tracks, last, low, high, t, k, v);
+    if pairs {
+        return choose::choose_two(t as u16, a, b, f, n);
+    }
+    choose::choose_many(t as u16, a, b, f, n, pins::later_than(last, k, p))
+}
+
+// Draws the columns 1 to n.
+pub fn sweep_columns(
+    top: &[u16],
+    bottom: &[u16],
+    layout: &mut [u16],
+    first: &[u16; 257],
+    last: &[u16; 257],
+    tracks: &mut [u16; 512],
+    free: &mut [u64; 8],
+    low: &mut [u16; 257],
+    high: &mut [u16; 257],
+    many: &mut [u16; 257],
+    stretched: &mut [u64; 8],
+    wide: &mut [u64; 8],
+    t: usize,
+    pairs: bool,
+)
+    requires { ⌜ Ready (now top) (now bottom) (now first) (now last) t pairs ⌝ }
+    requires { ⌜ Sound (now top) (now bottom) ⌝ }
+    requires { ⌜ Holds t (gap (now top) (now bottom) 0) (now tracks) (now free) (now low) (now high) (now many) ⌝ }
+    requires { ⌜ Sorted (now last) (now many) 0 (now stretched) (now wide) ⌝ }
+    requires { ⌜ length (now top) * (2 * t + 1) ≤ length (now layout) ⌝ }
+    ensures { λ _. ⌜ Holds t (gap (now (top .entry)) (now (bottom .entry)) (length (now (top .entry)))) (now (tracks .exit)) (now (free .exit)) (now (low .exit)) (now (high .exit)) (now (many .exit)) ⌝ }
+    ensures { λ _. ⌜ Sorted (now (last .entry)) (now (many .exit)) (length (now (top .entry))) (now (stretched .exit)) (now (wide .exit)) ⌝ }
+    ensures { λ _. ⌜ now (layout .exit) ≡ drawn (now (top .entry)) (now (bottom .entry)) (length (now (top .entry))) ++ drop (length (now (top .entry)) * (2 * t + 1)) (now (layout .entry)) ⌝ }
+    ensures { λ _. ⌜ length (drawn (now (top .entry)) (now (bottom .entry)) (length (now (top .entry)))) ≡ length (now (top .entry)) * (2 * t + 1) ⌝ }
+{
+    let each = 2 * t + 1;
+    let mut i = 0;
+    let mut at = 0;
+    let mut c = 0u16;
+    while i < top.len() {
+        let x = column_at(
+            top,
+            bottom,
+            i,
+            first,
+            last,
+            tracks,
+            free,
+            low,
+            high,
+            many,
+            stretched,
+            wide,
+            t,
+            pairs,
+        );
+        index::apply(tracks, free, low, high, many, t, x);
+        c += 1;
+        nets::sort_three(last, many, stretched, wide, c, x.ended, top[i], bottom[i]);
+        writer::write_column(&mut layout[at..at + each], tracks, t, x);
+        at += each;
+        i += 1;
+    }
+}

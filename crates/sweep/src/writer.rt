@@ -1,0 +1,56 @@
+// One column of the layout.
+use crate::Action;
+use crate::index;
+ghost use mathlib.Core.Path.{_≡_};
+ghost use Prim.Native.Nat.{_+_, _*_, _≤_};
+ghost use lib.ListN.{length, take, drop};
+ghost use mathlib.Core.List.{_++_};
+ghost use Rattle.sweep.specs.Tracks.{verticals};
+ghost use Rattle.sweep.specs.State.{tracksOf, Flat, runs};
+
+// The vertical edge between the rows k and k + 1: of net q below row a, of net m from there to row b, of net p above.
+fn vertical_at(k: u16, q: u16, a: u16, m: u16, b: u16, p: u16) -> u16
+    ensures { λ r. ⌜ r ≡ runs q a m b p k ⌝ }
+{
+    if k < a {
+        return q;
+    }
+    if k < b { m } else { p }
+}
+
+// Writes the vertical edges of a column.
+fn write_verticals(part: &mut [u16], t: usize, x: Action)
+    requires { ⌜ (t ≤ 511) × (length (now part) ≡ 2 * t + 1) × Flat x ⌝ }
+    ensures { λ _. ⌜ now (part .exit) ≡ verticals t x ++ drop (t + 1) (now (part .entry)) ⌝ }
+{
+    let a = index::greater_of(x.low, x.start);
+    let b = index::greater_of(x.stop, x.high);
+    let mut i = 0;
+    let mut k = 0u16;
+    while i <= t {
+        part[i] = vertical_at(k, x.bottom, a, x.middle, b, x.top);
+        i += 1;
+        k += 1;
+    }
+}
+
+// Copies the tracks that leave a column behind its vertical edges.
+fn copy_tracks(part: &mut [u16], tracks: &[u16; 512], t: usize)
+    requires { ⌜ (t ≤ 511) × (length (now part) ≡ 2 * t + 1) × (length (now tracks) ≡ 512) ⌝ }
+    ensures { λ _. ⌜ now (part .exit) ≡ take (t + 1) (now (part .entry)) ++ tracksOf t (now (tracks .entry)) ⌝ }
+{
+    let mut i = 0;
+    while i < t {
+        part[t + 1 + i] = tracks[1 + i];
+        i += 1;
+    }
+}
+
+// Writes a column: its vertical edges, and the tracks that leave it.
+pub fn write_column(part: &mut [u16], tracks: &[u16; 512], t: usize, x: Action)
+    requires { ⌜ (t ≤ 511) × (length (now part) ≡ 2 * t + 1) × (length (now tracks) ≡ 512) × Flat x ⌝ }
+    ensures { λ _. ⌜ now (part .exit) ≡ verticals t x ++ tracksOf t (now (tracks .entry)) ⌝ }
+{
+    write_verticals(part, t, x);
+    copy_tracks(part, tracks, t);
+}
