@@ -16,8 +16,10 @@ use Rattle.sweep.specs.Tracks.{strandsFrom, strands, first, last, lowest
 use Rattle.sets.specs.Member.{member, Put}
 use Rattle.sweep.specs.Applies.{Open}
 use Rattle.sweep.specs.State.{tracksOf, swept, Swept, Frees, Indexes, Holds, blank}
+use Rattle.grid.proofs.Counting.{zeros}
 use Rattle.sweep.proofs.Solved.After.{length-clear, clear-get}
-use Rattle.sweep.proofs.Router.Strands.{before-at-after, below-or, cleared-own, cleared-other, clear-absent, some-low, given-other, given-number, given-low, given-high, within, first-last, last-at-most, number-at-most}
+use Rattle.sweep.proofs.Solved.Strands.{between-from}
+use Rattle.sweep.proofs.Router.Strands.{before-at-after, below-or, cleared-own, cleared-other, clear-absent, some-low, given-other, given-number, given-low, given-high, first-last, last-at-most, number-at-most}
 
 -- ---- the tracks of an array
 
@@ -92,7 +94,7 @@ swept-all v t d s h e w =
 
     case : (j : ℕ) → j < t → (p : Bool) → eqb (getD d (suc j) 0) v ≡ p → getD s (suc j) 0 ≡ swept v (getD d (suc j) 0)
     case j b true q =
-        let r = within 1 v (tracksOf t d) j (omega (arith, length-tracks t d h e)) (tracks-at t d j b ∙ eqb-true (getD d (suc j) 0) v q) in
+        let r = between-from 1 v (tracksOf t d) j (omega (arith, length-tracks t d h e)) (tracks-at t d j b ∙ eqb-true (getD d (suc j) 0) v q) in
         w .inside (suc j) (omega arith) (omega arith)
     case j b false q = other j (rw q)
 
@@ -146,12 +148,6 @@ frees-put t y x d f g h p l b e u = record { none = other 0 (λ q. omega arith) 
 pub kept-track : (v y : ℕ) (d : List ℕ) → (getD d y 0 ≡ v → ⊥) → d ≡ set d y (swept v (getD d y 0))
 kept-track v y d n = rw (ne-eqb (getD d y 0) v n) (sym (set-getD d y 0))
 
--- zeros at every index
-pub zeros-at : (n j : ℕ) → getD (replicate {A = ℕ} n 0) j 0 ≡ 0
-zeros-at zero j = refl
-zeros-at (suc n) zero = refl
-zeros-at (suc n) (suc j) = zeros-at n j
-
 -- no track
 pub free-none : (s : List ℕ) → ((k : ℕ) → member s k ≡ false) → Frees 0 blank s
 free-none s h = record { none = h 0; each = λ y p l. absurd (omega arith); past = λ y l. h y }
@@ -172,7 +168,7 @@ free-more t s r b h u =
     each y p l = go (eqb y (t + 1)) refl
       where
         go : (q : Bool) → eqb y (t + 1) ≡ q → member r y ≡ eqb (getD (replicate {A = ℕ} 512 0) y 0) 0
-        go true q = ap (member r) (eqb-true y (t + 1) q ∙ sym here) ∙ u .same ∙ ap (λ (k : ℕ). eqb k 0) (sym (zeros-at 512 y))
+        go true q = ap (member r) (eqb-true y (t + 1) q ∙ sym here) ∙ u .same ∙ ap (λ (k : ℕ). eqb k 0) (sym (zeros 512 y))
         go false q = other y (eqb-false y (t + 1) q) ∙ h .each y p (omega (arith, eqb-false y (t + 1) q))
 
 -- ---- the index

@@ -17,7 +17,7 @@ use Rattle.sweep.specs.Drawing
 use Rattle.sweep.specs.Drawing.{gap, remains}
 use Rattle.sweep.specs.State.{tracksOf, Frees, Indexes, Holds, Spans, Sorted, Remaining, stretchedBy, wideBy, blank, noNets}
 use Rattle.sweep.proofs.Router.Strands.{below-or}
-use Rattle.sweep.proofs.Router.Arrays.{zeros-at}
+use Rattle.grid.proofs.Counting.{zeros}
 use Rattle.sweep.proofs.Router.Sweeps.{on-small}
 use Rattle.sweep.proofs.Router.Lowest.{many-on}
 
@@ -36,7 +36,7 @@ no-strands y v (suc n) h = rw (ne-eqb 0 v (λ e. omega arith)) (no-strands (suc 
 -- zeros, where the tracks hold nothing and so g is 0
 none-indexed : (g : List ℕ → ℕ) → g [] ≡ 0 → (t n : ℕ) → n ≡ 257 → Indexes (λ v tr. g (strands v tr)) (replicate n 0) (replicate t 0)
 unfolding strands
-none-indexed g e t n en = record { sized = length-replicate {A = ℕ} n 0 ∙ en; at = λ v h b. zeros-at n v ∙ sym (ap g (no-strands 1 v t h) ∙ e) }
+none-indexed g e t n en = record { sized = length-replicate {A = ℕ} n 0 ∙ en; at = λ v h b. zeros n v ∙ sym (ap g (no-strands 1 v t h) ∙ e) }
 
 -- the arrays hold gap 0
 pub begun : (top bottom : List ℕ) (t : ℕ) (a f l h n : List ℕ) → tracks top bottom ≡ t → t ≤ 511 → a ≡ blank → Frees t blank f → l ≡ noNets → h ≡ noNets → n ≡ noNets
@@ -47,7 +47,7 @@ begun top bottom t a f l h n et b ea fr el eh en =
     (record {
       fits = b;
       sized = length-replicate {A = ℕ} 512 0;
-      nets = λ j. subst (λ (z : ℕ). z ≤ 256) (sym (zeros-at 512 j)) (omega arith);
+      nets = λ j. subst (λ (z : ℕ). z ≤ 256) (sym (zeros 512 j)) (omega arith);
       is = take-zeros t 511 b;
       frees = fr;
       lows = none-indexed first refl t 257 refl;
@@ -59,7 +59,7 @@ begun top bottom t a f l h n et b ea fr el eh en =
 pub none-sorted : (last n s w : List ℕ) → n ≡ noNets → ((k : ℕ) → member s k ≡ false) → ((k : ℕ) → member w k ≡ false) → Sorted last n 0 s w
 unfolding stretchedBy wideBy noNets
 none-sorted last n s w en hs hw v =
-    let z : getD n v 0 ≡ 0 = ap (λ (l : List ℕ). getD l v 0) en ∙ zeros-at 257 v in
+    let z : getD n v 0 ≡ 0 = ap (λ (l : List ℕ). getD l v 0) en ∙ zeros 257 v in
     record {
       stretched = hs v ∙ sym (rw z (ap (λ (y : Bool). not (eqb v 0) && y) (and-none (not (ltb 0 (getD last v 0))) false refl) ∙ and-none (not (eqb v 0)) false refl));
       wide = hw v ∙ sym (rw z (ap (λ (y : Bool). not (eqb v 0) && y) (and-none (ltb 0 (getD last v 0)) false refl) ∙ and-none (not (eqb v 0)) false refl));

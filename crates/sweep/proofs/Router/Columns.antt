@@ -8,6 +8,7 @@ use borrow.Author.Tests.{lt-ltb, le-ltb}
 use Rattle.grid.specs.Channel.{pick}
 use Rattle.sweep.specs.State.{Flat, runs}
 use Rattle.sweep.proofs.Router.Strands.{below-or}
+use Rattle.sweep.proofs.Solved.Sound.{length-listed}
 use native.Mathlib.Nat.{zero-add}
 use native.Mathlib.Numerals.{add-one}
 use native.Mathlib.Omega.{arith}
@@ -15,12 +16,6 @@ use lib.ListN.{length, take, drop, getD, set, length-drop, drop-of-length-le}
 use lib.Seq.{paste, paste-suc, getD-drop, take-all, take-at}
 use Rattle.sweep.specs.declared.Action.{Action}
 use Rattle.sweep.specs.Tracks.{vertical, verticals, listed}
-
--- k values listed
-pub length-listed : (k y : ℕ) (f : ℕ → ℕ) → length (listed k y f) ≡ k
-unfolding listed
-length-listed zero y f = refl
-length-listed (suc k) y f = ap suc (length-listed k (suc y) f)
 
 -- the value at an index
 pub getD-listed : (k y : ℕ) (f : ℕ → ℕ) (j : ℕ) → j < k → getD (listed k y f) j 0 ≡ f (y + j)

@@ -13,17 +13,11 @@ use Rattle.sets.specs.Member.{member, Lowest}
 use Rattle.sweep.specs.Tracks.{lesser, lowestNet, strandsFrom, strands, many}
 use Rattle.sweep.specs.State.{Next}
 use Rattle.sweep.proofs.Router.Strands.{below-or}
+use Rattle.sweep.proofs.Solved.Strands.{lesser-is}
 
 -- a test does not hold and fail
 pub not-both : {b : Bool} → b ≡ true → b ≡ false → ⊥
 not-both p q = subst T (sym p ∙ q) tt
-
--- the lesser of two is one of them
-lesser-is : (x y : ℕ) → (lesser x y ≡ x) ⊎ (lesser x y ≡ y)
-unfolding lesser
-lesser-is zero y = inr refl
-lesser-is (suc x) zero = inl refl
-lesser-is (suc x) (suc y) = ⊎-elim (λ h. inl (omega arith)) (λ h. inr (omega arith)) (below-or x y)
 
 -- the lesser of two is at most each that is a net
 lesser-left : (x y : ℕ) → 0 < x → (0 < lesser x y) × (lesser x y ≤ x)

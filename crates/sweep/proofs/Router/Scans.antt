@@ -9,7 +9,8 @@ use native.Mathlib.Numerals.{add-one}
 use lib.ListN.{length, drop, getD}
 use Rattle.sweep.specs.Tracks.{strandsFrom, strands, first, lowest, highest, second}
 use Rattle.sweep.specs.State.{tracksOf}
-use Rattle.sweep.proofs.Router.Strands.{below-or, within, last-at-most, second-found, second-none}
+use Rattle.sweep.proofs.Router.Strands.{below-or, last-at-most, second-found, second-none}
+use Rattle.sweep.proofs.Solved.Strands.{between-from}
 use Rattle.sweep.proofs.Router.Arrays.{length-tracks, tracks-at}
 
 module _ (t : ℕ) (d : List ℕ) (h : t ≤ 511) (e : length d ≡ 512) (v : ℕ) where
@@ -35,7 +36,7 @@ module _ (t : ℕ) (d : List ℕ) (h : t ≤ 511) (e : length d ≡ 512) (v : �
   second-absent a b y ea eb by none =
       sym (second-none v (tracksOf t d) a ea
       (λ i c q.
-      let w = within 1 v (tracksOf t d) (a + i) c q in
+      let w = between-from 1 v (tracksOf t d) (a + i) c q in
       none (suc (a + i)) (omega arith) (omega arith) (sym (tracks-at t d (a + i) (omega (arith, length-tracks t d h e))) ∙ q)))
 
 -- none up to y, and not y + 1

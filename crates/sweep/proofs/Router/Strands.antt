@@ -12,6 +12,7 @@ use lib.Seq.{getD-drop}
 use Rattle.grid.specs.Channel.{pick}
 use Rattle.sweep.specs.Tracks.{strandsFrom, first, last, lesser, clear}
 use Rattle.sweep.specs.State.{swept}
+use Rattle.sweep.proofs.Solved.Strands.{between-from}
 
 -- below, at or above
 pub before-at-after : (i y : ℕ) → (i < y) ⊎ ((i ≡ y) ⊎ (y < i))
@@ -151,21 +152,6 @@ given-high y v (x ∷ xs) (suc j) h b e =
 
 -- ---- bounds
 
--- a track of net v lies from its lowest to its highest strand
-pub within : (y v : ℕ) (l : List ℕ) (j : ℕ) → j < length l → getD l j 0 ≡ v → (first (strandsFrom y v l) ≤ y + j) × (y + j ≤ last (strandsFrom y v l))
-unfolding strandsFrom first
-within y v [] j b e = absurd (omega arith)
-within y v (x ∷ xs) zero b e =
-    let a : last (y ∷ strandsFrom (suc y) v xs) ≡ max y (last (strandsFrom (suc y) v xs)) = last-cons y (suc y) v xs (omega arith) in
-    rw (eq-eqb x v e) (omega arith)
-within y v (x ∷ xs) (suc j) b e =
-    let s : List ℕ = strandsFrom (suc y) v xs in
-    let ih : (first s ≤ suc y + j) × (suc y + j ≤ last s) = within (suc y) v xs j (omega arith) e in
-    let c : last (y ∷ s) ≡ max y (last s) = last-cons y (suc y) v xs (omega arith) in
-    let here : (y ≤ y + suc j) × (y + suc j ≤ last (y ∷ s)) = omega arith in
-    let there : (first s ≤ y + suc j) × (y + suc j ≤ last s) = omega arith in
-    elim (eqb x v) as (λ p. (first (pick p (y ∷ s) s) ≤ y + suc j) × (y + suc j ≤ last (pick p (y ∷ s) s))) [ true ↦ here | false ↦ there ]
-
 -- the highest strand is at most the number of tracks
 pub last-at-most : (y v : ℕ) (l : List ℕ) → last (strandsFrom (suc y) v l) ≤ y + length l
 unfolding strandsFrom
@@ -279,7 +265,7 @@ pub second-found : (v : ℕ) (l : List ℕ) (a j : ℕ) → a ≡ first (strands
 unfolding last
 second-found v l zero j e b g h =
     let n : strandsFrom 1 v l ≡ [] = first-zero 0 v l (sym e) in
-    let w = within 1 v l (0 + j) b g in
+    let w = between-from 1 v l (0 + j) b g in
     let z : last (strandsFrom 1 v l) ≡ 0 = ap last n in
     absurd (omega arith)
 second-found v l (suc a) j e b g h =

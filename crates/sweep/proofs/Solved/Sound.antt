@@ -25,7 +25,7 @@ getD-listed zero y i f h = absurd (omega arith)
 getD-listed (suc k) y zero f h = ap f (omega arith)
 getD-listed (suc k) y (suc i) f h = getD-listed k (suc y) i f (omega arith) ∙ ap f (omega arith)
 
-length-listed : (k y : ℕ) (f : ℕ → ℕ) → length (listed k y f) ≡ k
+pub length-listed : (k y : ℕ) (f : ℕ → ℕ) → length (listed k y f) ≡ k
 unfolding listed
 length-listed zero y f = refl
 length-listed (suc k) y f = ap suc (length-listed k (suc y) f)

@@ -132,7 +132,7 @@ last-low s (x ∷ []) a = let h = a .0 in omega arith
 last-low s (x ∷ y ∷ ys) a = let ih = last-low x (y ∷ ys) (a .1) in let h = a .0 in omega arith
 
 -- each track that holds the net lies from the first to the last strand
-between-from : (s v : ℕ) (l : List ℕ) (i : ℕ) → i < length l → getD l i 0 ≡ v → (first (strandsFrom s v l) ≤ s + i) × (s + i ≤ last (strandsFrom s v l))
+pub between-from : (s v : ℕ) (l : List ℕ) (i : ℕ) → i < length l → getD l i 0 ≡ v → (first (strandsFrom s v l) ≤ s + i) × (s + i ≤ last (strandsFrom s v l))
 unfolding strandsFrom first last
 between-from s v [] i h g = absurd (omega arith)
 between-from s v (x ∷ xs) zero h g = go (eqb x v) (sameBy x v)
@@ -277,7 +277,7 @@ lesser-zero zero y e = (refl, e)
 lesser-zero (suc x) zero e = absurd (omega arith)
 lesser-zero (suc x) (suc y) e = absurd (omega arith)
 
-lesser-is : (x y : ℕ) → (lesser x y ≡ x) ⊎ (lesser x y ≡ y)
+pub lesser-is : (x y : ℕ) → (lesser x y ≡ x) ⊎ (lesser x y ≡ y)
 unfolding lesser
 lesser-is zero y = inr refl
 lesser-is (suc x) zero = inl refl
