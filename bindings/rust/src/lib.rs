@@ -1,0 +1,161 @@
+//! Safe calls of the proved knock-knee channel router.
+//!
+//! A channel is two rows of 16-bit numbers, one for each column: 0 for no pin,
+//! else a net number 1 to 256. A drawing of width w on t tracks is w columns
+//! of 2t + 1 entries: the vertical edges from row 0 upward, then the
+//! horizontal edges that leave to the right, from track 1 upward.
+//!
+//! ```
+//! let (top, bottom) = ([1, 2], [2, 1]);
+//! let mut layout = vec![0; gaxwethi::need(&top, &bottom)?];
+//! let drawn = gaxwethi::route(&top, &bottom, &mut layout)?;
+//! assert_eq!((drawn.density, drawn.tracks, drawn.width), (2, 2, 3));
+//! let layout = &layout[..drawn.entries()];
+//! assert!(gaxwethi::check(&top, &bottom, drawn.width, drawn.tracks, layout).is_ok());
+//! assert_eq!(gaxwethi::column(layout, drawn.width, drawn.tracks, 2), [1, 2, 2, 1, 1]);
+//! # Ok::<(), gaxwethi::Refusal>(())
+//! ```
+//!
+//! The library keeps no state, so calls from several threads are independent.
+
+pub mod raw;
+mod refusal;
+
+pub use refusal::Refusal;
+
+/// The figures of a routed channel.
+#[derive(Clone, Copy, Debug, PartialEq, Eq)]
+pub struct Figures {
+    /// The most nets that cross a gap.
+    pub density: usize,
+    /// The density where each net has two pins, else twice the density less 1.
+    pub tracks: usize,
+    /// The columns of the channel and those added after them.
+    pub width: usize,
+}
+
+impl Figures {
+    /// The entries of the drawing: it is that much of the layout slice.
+    pub fn entries(&self) -> usize {
+        self.width * (2 * self.tracks + 1)
+    }
+}
+
+/// What is wrong with a drawing.
+#[derive(Clone, Copy, Debug, PartialEq, Eq)]
+pub struct Fault {
+    pub refusal: Refusal,
+    /// The lowest position of a bad entry for refusals 13 to 15, the lowest
+    /// net number for 16, else 0.
+    pub place: usize,
+}
+
+impl std::fmt::Display for Fault {
+    fn fmt(&self, f: &mut std::fmt::Formatter) -> std::fmt::Result {
+        match self.refusal {
+            Refusal::Pieces => write!(f, "{}, net {}", self.refusal, self.place),
+            Refusal::Entry | Refusal::PinEdge | Refusal::LastColumn => {
+                write!(f, "{}, entry {}", self.refusal, self.place)
+            }
+            _ => self.refusal.fmt(f),
+        }
+    }
+}
+
+impl std::error::Error for Fault {}
+
+/// A record of the net report; zeros for an unused number.
+#[repr(C)]
+#[derive(Clone, Copy, Debug, Default, PartialEq, Eq)]
+pub struct NetRecord {
+    /// The column of the first pin, counted from 1.
+    pub first: u16,
+    /// The column of the last pin.
+    pub last: u16,
+    /// How many pins the net has.
+    pub pins: u16,
+}
+
+/// The result for a number of the library: 0 is acceptance.
+fn accept<T>(number: u16, value: T) -> Result<T, Refusal> {
+    match number {
+        0 => Ok(value),
+        _ => Err(Refusal::from_number(number).expect("the library's numbers are 0 to 16")),
+    }
+}
+
+/// The density of a channel, or refusal 4 to 7.
+pub fn density(top: &[u16], bottom: &[u16]) -> Result<usize, Refusal> {
+    let (n, m) = (top.len(), bottom.len());
+    // SAFETY: each pointer and length is that of a slice that lives through the
+    // call, and only the slices lent as mutable are written. So it is below too.
+    let r = unsafe { raw::gaxwethi_density(top.as_ptr(), n, bottom.as_ptr(), m) };
+    accept(r.number, r.density)
+}
+
+/// The length of a layout slice that is enough to route a channel, or refusal
+/// 4 to 7.
+pub fn need(top: &[u16], bottom: &[u16]) -> Result<usize, Refusal> {
+    let (n, m) = (top.len(), bottom.len());
+    let r = unsafe { raw::gaxwethi_need(top.as_ptr(), n, bottom.as_ptr(), m) };
+    accept(r.number, r.length)
+}
+
+/// Routes a channel: the drawing is the first [`Figures::entries`] of the
+/// layout slice, and what follows keeps its contents. With refusal 4 to 8
+/// nothing is written.
+pub fn route(top: &[u16], bottom: &[u16], layout: &mut [u16]) -> Result<Figures, Refusal> {
+    let (n, m, len) = (top.len(), bottom.len(), layout.len());
+    let out = layout.as_mut_ptr();
+    let r = unsafe { raw::gaxwethi_route(top.as_ptr(), n, bottom.as_ptr(), m, out, len) };
+    let figures = Figures { density: r.density, tracks: r.tracks, width: r.width };
+    accept(r.number, figures)
+}
+
+/// Checks any drawing of a channel by the grid's rules: `Ok` for a solution,
+/// else refusal 4 to 7 or 10 to 16 with its place.
+pub fn check(
+    top: &[u16],
+    bottom: &[u16],
+    width: usize,
+    tracks: usize,
+    layout: &[u16],
+) -> Result<(), Fault> {
+    let (n, m, len) = (top.len(), bottom.len(), layout.len());
+    let entries = layout.as_ptr();
+    let r = unsafe {
+        raw::gaxwethi_check(top.as_ptr(), n, bottom.as_ptr(), m, width, tracks, entries, len)
+    };
+    accept(r.number, ()).map_err(|refusal| Fault { refusal, place: r.place })
+}
+
+/// Fills the first 256 records of a table, one for each net number; what
+/// follows keeps its contents. With refusal 4 to 7 or 9 nothing is written.
+pub fn report(top: &[u16], bottom: &[u16], table: &mut [NetRecord]) -> Result<(), Refusal> {
+    let (n, m, len) = (top.len(), bottom.len(), 3 * table.len());
+    // A record is three numbers without padding.
+    let figures = table.as_mut_ptr().cast();
+    let number = unsafe { raw::gaxwethi_report(top.as_ptr(), n, bottom.as_ptr(), m, figures, len) };
+    accept(number, ())
+}
+
+/// Column c, counted from 1, of a drawing: its 2t + 1 entries. The part is
+/// empty if w or t is over 511, the slice is not w × (2t + 1) entries, or c is
+/// not 1 to w.
+pub fn column(layout: &[u16], width: usize, tracks: usize, c: usize) -> &[u16] {
+    let part = unsafe { raw::gaxwethi_column(layout.len(), width, tracks, c) };
+    match part.length {
+        0 => &[],
+        length => &layout[part.offset..part.offset + length],
+    }
+}
+
+/// The text that `knee` writes for a record: a listing, or the one line that
+/// says why it is refused (1 to 7, where 5 is over 64 columns).
+pub fn list(record: &[u8]) -> String {
+    let mut text = vec![0; raw::TEXT];
+    // SAFETY: the text has the size that the library expects.
+    let length = unsafe { raw::gaxwethi_list(record.as_ptr(), record.len(), text.as_mut_ptr()) };
+    text.truncate(length);
+    String::from_utf8(text).expect("a listing is ASCII text")
+}

@@ -1,0 +1,100 @@
+//! Why a call was refused.
+
+use std::fmt;
+
+/// A refusal, with the number that the scope paper gives it.
+#[derive(Clone, Copy, Debug, PartialEq, Eq, PartialOrd, Ord, Hash)]
+#[repr(u16)]
+pub enum Refusal {
+    /// The record is under 4 or over 1,030 bytes, or its length field is wrong.
+    RecordLength = 1,
+    /// The record's kind is not 1.
+    RecordKind = 2,
+    /// The record's body is under 2 bytes or not 2 + 4n bytes.
+    RecordBody = 3,
+    /// The rows differ in length.
+    RowLengths = 4,
+    /// The channel has over 256 columns, or over 64 for a listing.
+    TooManyColumns = 5,
+    /// A row has a number over 256.
+    NetNumber = 6,
+    /// A net has a single pin.
+    SinglePin = 7,
+    /// The layout slice is shorter than [`need`](crate::need) says.
+    LayoutTooShort = 8,
+    /// The net table has under 256 records.
+    TableTooShort = 9,
+    /// The drawing's width is under the channel's columns or over 511.
+    Width = 10,
+    /// The drawing has over 511 tracks.
+    Tracks = 11,
+    /// The drawing's slice is not w × (2t + 1) entries.
+    DrawingLength = 12,
+    /// An entry is neither 0 nor a net of the channel; the place is its position.
+    Entry = 13,
+    /// A pin edge differs from its pin; the place is its position.
+    PinEdge = 14,
+    /// The last column has a horizontal edge; the place is its position.
+    LastColumn = 15,
+    /// A net is in more than one piece; the place is the lowest such net.
+    Pieces = 16,
+}
+
+impl Refusal {
+    /// All refusals in the order of their numbers.
+    pub const ALL: [Refusal; 16] = [
+        Refusal::RecordLength,
+        Refusal::RecordKind,
+        Refusal::RecordBody,
+        Refusal::RowLengths,
+        Refusal::TooManyColumns,
+        Refusal::NetNumber,
+        Refusal::SinglePin,
+        Refusal::LayoutTooShort,
+        Refusal::TableTooShort,
+        Refusal::Width,
+        Refusal::Tracks,
+        Refusal::DrawingLength,
+        Refusal::Entry,
+        Refusal::PinEdge,
+        Refusal::LastColumn,
+        Refusal::Pieces,
+    ];
+
+    /// The paper's number, 1 to 16.
+    pub fn number(self) -> u16 {
+        self as u16
+    }
+
+    /// The refusal of a number; `None` for 0, which is acceptance, and over 16.
+    pub fn from_number(number: u16) -> Option<Refusal> {
+        let at = (number as usize).checked_sub(1)?;
+        Self::ALL.get(at).copied()
+    }
+}
+
+impl fmt::Display for Refusal {
+    fn fmt(&self, f: &mut fmt::Formatter) -> fmt::Result {
+        let reason = match self {
+            Refusal::RecordLength => "record of a wrong length",
+            Refusal::RecordKind => "record of another kind",
+            Refusal::RecordBody => "record body of a wrong length",
+            Refusal::RowLengths => "rows of different lengths",
+            Refusal::TooManyColumns => "too many columns",
+            Refusal::NetNumber => "a number over 256",
+            Refusal::SinglePin => "a net with one pin",
+            Refusal::LayoutTooShort => "layout slice too short",
+            Refusal::TableTooShort => "net table under 256 records",
+            Refusal::Width => "width under the columns or over 511",
+            Refusal::Tracks => "over 511 tracks",
+            Refusal::DrawingLength => "slice of another length than the drawing",
+            Refusal::Entry => "an entry that is no net",
+            Refusal::PinEdge => "a pin edge that differs from its pin",
+            Refusal::LastColumn => "a horizontal edge in the last column",
+            Refusal::Pieces => "a net in more than one piece",
+        };
+        write!(f, "refused {}: {reason}", self.number())
+    }
+}
+
+impl std::error::Error for Refusal {}

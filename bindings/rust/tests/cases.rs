@@ -1,0 +1,83 @@
+//! The paper's channels A to K through the safe calls.
+
+use gaxwethi::*;
+
+/// Density, tracks and width of a channel whose drawing passes the checker.
+fn routed(top: &[u16], bottom: &[u16]) -> Result<(usize, usize, usize), Refusal> {
+    let mut layout = vec![9; need(top, bottom)?];
+    let drawn = route(top, bottom, &mut layout)?;
+    assert_eq!(density(top, bottom), Ok(drawn.density));
+    let layout = &layout[..drawn.entries()];
+    assert_eq!(check(top, bottom, drawn.width, drawn.tracks, layout), Ok(()));
+    Ok((drawn.density, drawn.tracks, drawn.width))
+}
+
+#[test]
+fn channels_to_try() {
+    assert_eq!(routed(&[], &[]), Ok((0, 0, 0)));
+    assert_eq!(routed(&[5], &[5]), Ok((0, 0, 1)));
+    assert_eq!(routed(&[1, 1], &[0, 0]), Ok((1, 1, 2)));
+    assert_eq!(routed(&[1, 2], &[2, 1]), Ok((2, 2, 3)));
+    assert_eq!(routed(&[1, 1, 0], &[0, 2, 2]), Ok((1, 1, 3)));
+    assert_eq!(routed(&[1, 1, 1], &[0, 0, 0]), Ok((1, 1, 3)));
+    assert_eq!(routed(&[1, 1, 1], &[2, 2, 2]), Ok((2, 3, 3)));
+    assert_eq!(routed(&[1, 2, 1], &[2, 1, 2]), Ok((2, 3, 4)));
+    assert_eq!(routed(&[1], &[0]), Err(Refusal::SinglePin));
+    assert_eq!(routed(&[257, 257], &[0, 0]), Err(Refusal::NetNumber));
+    assert_eq!(routed(&[256, 256], &[0, 0]), Ok((1, 1, 2)));
+}
+
+#[test]
+fn slice_of_case_d() {
+    let mut short = [9; 14];
+    assert_eq!(route(&[1, 2], &[2, 1], &mut short), Err(Refusal::LayoutTooShort));
+    assert_eq!(short, [9; 14]);
+    assert!(route(&[1, 2], &[2, 1], &mut [9; 15]).is_ok());
+}
+
+#[test]
+fn faults_have_a_place() {
+    let fault = |refusal, place| Err(Fault { refusal, place });
+    assert_eq!(check(&[5], &[5], 1, 0, &[5]), Ok(()));
+    assert_eq!(check(&[5], &[5], 0, 0, &[]), fault(Refusal::Width, 0));
+    assert_eq!(check(&[5], &[5], 1, 1, &[5, 5, 4]), fault(Refusal::Entry, 2));
+    assert_eq!(check(&[5], &[5], 1, 1, &[5, 0, 0]), fault(Refusal::PinEdge, 1));
+    assert_eq!(check(&[5], &[5], 1, 1, &[5, 5, 5]), fault(Refusal::LastColumn, 2));
+    let pieces = check(&[1, 1], &[0, 0], 2, 1, &[0, 1, 0, 0, 1, 0]);
+    assert_eq!(pieces, fault(Refusal::Pieces, 1));
+    let words = "refused 16: a net in more than one piece, net 1";
+    assert_eq!(pieces.unwrap_err().to_string(), words);
+}
+
+#[test]
+fn report_of_case_f() {
+    let kept = NetRecord { first: 7, last: 8, pins: 9 };
+    let mut table = vec![kept; 257];
+    report(&[1, 1, 1], &[0, 0, 0], &mut table).unwrap();
+    assert_eq!(table[0], NetRecord { first: 1, last: 3, pins: 3 });
+    assert!(table[1..256].iter().all(|record| *record == NetRecord::default()));
+    assert_eq!(table[256], kept);
+    assert_eq!(report(&[], &[], &mut table[..255]), Err(Refusal::TableTooShort));
+}
+
+#[test]
+fn columns_and_listing_of_case_d() {
+    let mut layout = [0; 15];
+    let drawn = route(&[1, 2], &[2, 1], &mut layout).unwrap();
+    assert_eq!(column(&layout, drawn.width, drawn.tracks, 1), [2, 0, 1, 2, 1]);
+    assert_eq!(column(&layout, drawn.width, drawn.tracks, 4), []);
+    let record = [12, 0, 1, 0, 2, 0, 1, 0, 2, 0, 2, 0, 1, 0];
+    let text = "density 2 tracks 2 width 3\n1: 2 0 1 | 2 1\n2: 1 2 2 | 1 1\n3: 0 1 0 | 0 0\n";
+    assert_eq!(list(&record), text);
+    assert_eq!(list(&record[..13]), "refused 1\n");
+}
+
+#[test]
+fn numbers_of_refusals() {
+    for (number, refusal) in (1..).zip(Refusal::ALL) {
+        assert_eq!(refusal.number(), number);
+        assert_eq!(Refusal::from_number(number), Some(refusal));
+    }
+    assert_eq!(Refusal::from_number(0), None);
+    assert_eq!(Refusal::from_number(17), None);
+}

@@ -1,0 +1,9 @@
+-- What a private function of the net report promises. No promise of a call rests on this.
+use Prim.Native.Nat.{ℕ, _+_, _*_}
+use mathlib.Core.List.{List}
+use lib.ListN.{set}
+use Rattle.report.specs.declared.NetRecord.{NetRecord}
+
+-- the three numbers of a record, number k from 0, put into a table of numbers
+unfoldable pub netPut : NetRecord → (k : ℕ) → List ℕ → List ℕ
+netPut r k xs = set (set (set xs (3 * k) (r .first)) (3 * k + 1) (r .last)) (3 * k + 2) (r .pins)

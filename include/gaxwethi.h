@@ -1,0 +1,165 @@
+/*
+ * Gaxwethi: a proved router for knock-knee channels. The calls of the static
+ * library libexport.a, which `rt staticlib export` writes to target/staticlib.
+ *
+ * A channel of n columns is two rows of numbers, top and bottom, one number
+ * for each column: 0 for no pin, else a net number 1 to 256. A net has two or
+ * more pins. The density d is the largest count, over the gaps between
+ * columns, of nets with pins on both sides.
+ *
+ * A drawing of width w on t tracks is w columns of 2t + 1 entries each:
+ * t + 1 vertical edges from row 0 (the bottom pin) upward, then the t
+ * horizontal edges that leave to the right, from track 1 upward. An entry is
+ * a net number, or 0 for no edge. The drawing is a solution if w is at least
+ * n, every entry is 0 or a net of the channel, the first and last vertical
+ * entries of each column equal its pins (0 past column n), the last column has
+ * no horizontal edge, and the edges of each net are one piece.
+ *
+ * Numbers. Each call answers with a number: 0 for acceptance, else why it is
+ * refused. Refusals are checked in the order of their numbers; a call skips
+ * those of the places that it lacks. A refused call writes to no slice or
+ * table, and its other figures are 0.
+ *
+ *    Record    1  under 4 or over 1,030 bytes, or a wrong length field
+ *              2  kind not 1
+ *              3  body under 2 bytes, or not 2 + 4n bytes
+ *    Rows      4  lengths differ
+ *              5  over 256 columns; for a listing over 64
+ *              6  a number over 256
+ *              7  a net with one pin
+ *    Slice     8  layout shorter than gaxwethi_need says
+ *              9  net table under 256 records
+ *    Drawing  10  w under n or over 511
+ *             11  t over 511
+ *             12  slice not w * (2t + 1) entries
+ *             13  entry neither 0 nor a net
+ *             14  pin edge wrong
+ *             15  horizontal edge in the last column
+ *             16  a net in more than one piece
+ *
+ * Slices. A slice is lent as a pointer and a length in elements. The pointer
+ * is not null, also where the length is 0, is aligned, and is good for that
+ * many elements. A slice that is written overlaps no other argument. These
+ * are the only conditions: all contents and all numbers are taken.
+ *
+ * No call keeps state, and every call ends; calls from several threads are
+ * independent.
+ */
+
+#ifndef GAXWETHI_H
+#define GAXWETHI_H
+
+#include <stddef.h>
+#include <stdint.h>
+
+#ifdef __cplusplus
+extern "C" {
+#endif
+
+typedef struct {
+    uint16_t number;
+    size_t density;
+} gaxwethi_density_result;
+
+/*
+ * The density of a channel. Refuses with 4 to 7. It is 0 where there are
+ * fewer than two columns.
+ */
+gaxwethi_density_result gaxwethi_density(const uint16_t *top, size_t n,
+                                         const uint16_t *bottom, size_t m);
+
+typedef struct {
+    uint16_t number;
+    size_t length;
+} gaxwethi_need_result;
+
+/*
+ * The length that a layout slice must have for gaxwethi_route: with t the
+ * tracks of the channel, (n + t/2 rounded down) * (2t + 1). Refuses with 4
+ * to 7. It is at most 511 * 1023.
+ */
+gaxwethi_need_result gaxwethi_need(const uint16_t *top, size_t n,
+                                   const uint16_t *bottom, size_t m);
+
+typedef struct {
+    uint16_t number;
+    size_t density;
+    size_t tracks;
+    size_t width;
+} gaxwethi_route_result;
+
+/*
+ * Routes a channel into a layout slice. Refuses with 4 to 8.
+ *
+ * An accepted call's drawing is the first width * (2 * tracks + 1) entries of
+ * the slice; the entries after it keep their contents. The drawing is a
+ * solution. The tracks are d where each net has two pins, and then no
+ * solution has fewer; else they are 2d - 1. The width is n plus the columns
+ * added after column n, at most t/2 rounded down.
+ */
+gaxwethi_route_result gaxwethi_route(const uint16_t *top, size_t n,
+                                     const uint16_t *bottom, size_t m,
+                                     uint16_t *layout, size_t len);
+
+typedef struct {
+    uint16_t number;
+    size_t place;
+} gaxwethi_check_result;
+
+/*
+ * Checks any drawing of a channel by the grid's rules alone. Refuses with 4
+ * to 7 and 10 to 16; the number is 0 exactly if w and t are at most 511, the
+ * slice has the drawing's length, and the drawing is a solution.
+ *
+ * The place is, for 13 to 15, the lowest position of such an entry, counted
+ * from 0; for 16 the lowest number of such a net; else 0.
+ */
+gaxwethi_check_result gaxwethi_check(const uint16_t *top, size_t n,
+                                     const uint16_t *bottom, size_t m,
+                                     size_t w, size_t t,
+                                     const uint16_t *layout, size_t len);
+
+/* Numbers in the table of gaxwethi_report: three for each of 256 nets. */
+#define GAXWETHI_FIGURES (3 * 256)
+
+/*
+ * Reports the nets: for each number 1 to 256 its first column, last column
+ * and pin count, zeros for an unused number. The table is lent as numbers,
+ * three for each record; len counts numbers. Refuses with 4 to 7, and with 9
+ * if len is under GAXWETHI_FIGURES. Numbers after those keep their contents.
+ */
+uint16_t gaxwethi_report(const uint16_t *top, size_t n,
+                         const uint16_t *bottom, size_t m,
+                         uint16_t *figures, size_t len);
+
+typedef struct {
+    size_t offset;
+    size_t length;
+} gaxwethi_part;
+
+/*
+ * Where column c, counted from 1, lies in a layout slice of len entries: its
+ * 2t + 1 entries begin at offset. The length is 0 if w or t is over 511, len
+ * is not w * (2t + 1), or c is not 1 to w.
+ */
+gaxwethi_part gaxwethi_column(size_t len, size_t w, size_t t, size_t c);
+
+/* The size of the text that gaxwethi_list is lent; the longest listing fits. */
+#define GAXWETHI_TEXT 131072
+
+/*
+ * Writes the listing of a record, as the program knee does, and returns its
+ * length in bytes; the bytes after it keep their contents, and there is no
+ * closing zero byte. A refusal, 1 to 7 with 5 for over 64 columns, is a text
+ * too: the line "refused 7".
+ *
+ * A record is, in 16-bit little-endian numbers: the length in bytes of all
+ * that follows this number, the kind 1, n, the top row, the bottom row.
+ */
+size_t gaxwethi_list(const uint8_t *record, size_t len, uint8_t *text);
+
+#ifdef __cplusplus
+}
+#endif
+
+#endif

@@ -1,0 +1,12 @@
+//! The same algorithms in idiomatic Rust: what the library's speed is measured
+//! against, and what stands in for the library when the trials are tried out.
+
+pub mod check;
+pub mod list;
+pub mod route;
+pub mod rows;
+
+pub use check::{check, column};
+pub use list::list;
+pub use route::{need, route, Figures};
+pub use rows::{density, report};

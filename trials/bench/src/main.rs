@@ -1,0 +1,150 @@
+//! Times the library beside idiomatic Rust of the same algorithm and beside a
+//! plain fill of the layout, in one run, and prints a table in Markdown.
+//!
+//! `bench [REPETITIONS]`: each repetition times every side in turn, so that a
+//! disturbance of the machine falls on all of them; the medians count.
+
+mod channels;
+
+use channels::{cases, Case};
+use std::hint::black_box;
+use std::time::Instant;
+
+/// Some work on a channel; what it returns says that the sides agree.
+type Side<'a> = Box<dyn FnMut(&Case) -> usize + 'a>;
+
+/// A measurement of some channels, with that many repetitions: a time for each side.
+type Measure = fn(&[Case], usize) -> Vec<f64>;
+
+/// The channels of a row of the table are measured in this many groups.
+const GROUPS: usize = 4;
+
+/// The seconds that one sample takes at least. It is far less than the time
+/// that a busy machine gives a program in one go, so most samples are whole.
+const SAMPLE: f64 = 0.0001;
+
+/// Seconds for each channel of some passes over the cases.
+fn sample(side: &mut Side, cases: &[Case], passes: usize) -> f64 {
+    let start = Instant::now();
+    for _ in 0..passes {
+        for case in cases {
+            black_box(side(black_box(case)));
+        }
+    }
+    start.elapsed().as_secs_f64() / (passes * cases.len()) as f64
+}
+
+/// The median time of each side for each channel of a group.
+fn of_group(sides: &mut [Side], group: &[Case], repetitions: usize) -> Vec<f64> {
+    let mut passes = Vec::new();
+    for side in sides.iter_mut() {
+        let once = (0..9).map(|_| sample(side, group, 1)).fold(f64::MAX, f64::min);
+        passes.push((SAMPLE / (once * group.len() as f64)).ceil() as usize);
+    }
+    let mut times = vec![Vec::new(); sides.len()];
+    for turn in 0..repetitions {
+        for k in 0..sides.len() {
+            let side = (turn + k) % sides.len();
+            times[side].push(sample(&mut sides[side], group, passes[side]));
+        }
+    }
+    let median = |mut list: Vec<f64>| {
+        list.sort_by(f64::total_cmp);
+        list[list.len() / 2]
+    };
+    times.into_iter().map(median).collect()
+}
+
+/// The time of each side: the mean of its medians over groups of channels.
+fn medians(mut sides: Vec<Side>, cases: &[Case], repetitions: usize) -> Vec<f64> {
+    for case in cases {
+        assert_eq!(sides[0](case), sides[1](case), "the sides disagree");
+    }
+    let groups = cases.chunks(cases.len().div_ceil(GROUPS));
+    let of_groups: Vec<_> = groups.map(|g| of_group(&mut sides, g, repetitions)).collect();
+    let sum = |side: usize| of_groups.iter().map(|times| times[side]).sum::<f64>();
+    let mean = |side| sum(side) / of_groups.len() as f64;
+    (0..sides.len()).map(mean).collect()
+}
+
+/// A number made of all entries of a drawing.
+fn digest(entries: &[u16]) -> usize {
+    entries.iter().fold(0, |h, &x| usize::wrapping_mul(h ^ x as usize, 0x0100_0000_01b3))
+}
+
+fn density(cases: &[Case], repetitions: usize) -> Vec<f64> {
+    let library = |c: &Case| gaxwethi::density(&c.top, &c.bottom).unwrap();
+    let rust = |c: &Case| baseline::density(&c.top, &c.bottom).unwrap();
+    medians(vec![Box::new(library), Box::new(rust)], cases, repetitions)
+}
+
+/// Routing, and a fill of as many entries as the drawing has.
+fn route(cases: &[Case], repetitions: usize) -> Vec<f64> {
+    let room = cases.iter().map(|c| baseline::need(&c.top, &c.bottom).unwrap()).max().unwrap();
+    let [mut one, mut other, mut filled] = [(); 3].map(|()| vec![0u16; room]);
+    for case in cases {
+        gaxwethi::route(&case.top, &case.bottom, &mut one).unwrap();
+        let size = case.drawing.len();
+        assert_eq!(digest(&one[..size]), digest(&case.drawing), "the drawings differ");
+    }
+    let library = |c: &Case| gaxwethi::route(&c.top, &c.bottom, &mut one).unwrap().width;
+    let rust = |c: &Case| baseline::route(&c.top, &c.bottom, &mut other).unwrap().width;
+    let fill = |c: &Case| {
+        filled[..c.drawing.len()].fill(black_box(7));
+        black_box(&filled);
+        c.width
+    };
+    medians(vec![Box::new(library), Box::new(rust), Box::new(fill)], cases, repetitions)
+}
+
+fn check(cases: &[Case], repetitions: usize) -> Vec<f64> {
+    let library = |c: &Case| {
+        gaxwethi::check(&c.top, &c.bottom, c.width, c.tracks, &c.drawing).is_ok() as usize
+    };
+    let rust = |c: &Case| {
+        let answer = baseline::check(&c.top, &c.bottom, c.width, c.tracks, &c.drawing);
+        (answer == (0, 0)) as usize
+    };
+    medians(vec![Box::new(library), Box::new(rust)], cases, repetitions)
+}
+
+/// A time in a fitting unit.
+fn shown(seconds: f64) -> String {
+    match seconds * 1e9 {
+        ns if ns < 10_000.0 => format!("{ns:.0} ns"),
+        ns => format!("{:.1} µs", ns / 1000.0),
+    }
+}
+
+fn main() {
+    let repetitions = std::env::args().nth(1).map_or(201, |x| x.parse().expect("a number"));
+    println!("# Benchmarks\n");
+    println!("The library beside idiomatic Rust of the same algorithm, and beside a plain fill of");
+    println!(
+        "the drawing's entries. Times are for one channel, medians of {repetitions} interleaved"
+    );
+    println!("repetitions in one run of this command, in the root of the repository:\n");
+    println!("    cargo run --release --manifest-path trials/Cargo.toml -p bench\n");
+    println!("| call | n | pins | library | Rust | library / Rust | fill | library / fill |");
+    println!("|---|---|---|---|---|---|---|---|");
+    let calls: [(&str, Measure); 3] = [("density", density), ("route", route), ("check", check)];
+    for (call, measure) in calls {
+        for n in [16, 64, 256] {
+            for (pins, most) in [("2", 2), ("2 to 5", 5)] {
+                let times = measure(&cases(n, most, GROUPS * 256 / n), repetitions);
+                let (library, rust) = (times[0], times[1]);
+                let fill = times.get(2).map_or(["–".into(), "–".into()], |fill| {
+                    [shown(*fill), format!("{:.2}", library / fill)]
+                });
+                println!(
+                    "| {call} | {n} | {pins} | {} | {} | {:.2} | {} | {} |",
+                    shown(library),
+                    shown(rust),
+                    library / rust,
+                    fill[0],
+                    fill[1]
+                );
+            }
+        }
+    }
+}

@@ -1,0 +1,207 @@
+//! One trial: every call on one random channel, through both routers.
+
+use crate::damage::{self, Drawing};
+use crate::library;
+use crate::random::{self, Channel, Rng};
+use gaxwethi::raw::{Checked, Density, Need, Routed, TEXT};
+use std::fmt::Debug;
+
+/// What was compared, and where the two differ.
+pub struct Tally {
+    pub channels: u64,
+    pub calls: u64,
+    /// How often each number was the answer, 0 to 16.
+    pub numbers: [u64; 17],
+    pub differences: u64,
+    /// The first differences, in words.
+    pub shown: Vec<String>,
+    text: Box<[u8; TEXT]>,
+}
+
+const SHOWN: usize = 3;
+const MARK: u8 = 0xa5;
+
+impl Tally {
+    pub fn new() -> Tally {
+        Tally {
+            channels: 0,
+            calls: 0,
+            numbers: [0; 17],
+            differences: 0,
+            shown: Vec::new(),
+            text: vec![MARK; TEXT].into_boxed_slice().try_into().unwrap(),
+        }
+    }
+
+    /// Adds the counts of another tally.
+    pub fn add(&mut self, other: Tally) {
+        self.channels += other.channels;
+        self.calls += other.calls;
+        self.differences += other.differences;
+        self.shown.extend(other.shown);
+        self.numbers.iter_mut().zip(other.numbers).for_each(|(a, b)| *a += b);
+    }
+
+    /// Compares two answers; `number` is the second router's.
+    fn same<T: PartialEq + Debug>(
+        &mut self,
+        call: &str,
+        c: &Channel,
+        number: u16,
+        ours: T,
+        library: T,
+    ) {
+        self.calls += 1;
+        self.numbers[number as usize] += 1;
+        if ours == library {
+            return;
+        }
+        self.differences += 1;
+        if self.shown.len() < SHOWN {
+            let mut text = format!("{call}: second {ours:?}, library {library:?}");
+            text.truncate(600);
+            self.shown.push(format!("{text}\n  top {:?}\n  bottom {:?}", c.top, c.bottom));
+        }
+    }
+
+    /// Runs one trial: all small channels first, then random ones.
+    pub fn trial(&mut self, seed: u64, trial: u64) {
+        let rng = &mut Rng::of(seed, trial);
+        let mut c = random::small(trial).unwrap_or_else(|| random::any(rng));
+        if c.top.len() > 3 && rng.percent(12) {
+            damage::rows(rng, &mut c);
+        }
+        self.channels += 1;
+        self.counts(&c);
+        self.routes(rng, &c);
+        self.drawings(rng, &c);
+        self.reports(rng, &c);
+        self.lists(rng, &c);
+    }
+
+    /// Density and need.
+    fn counts(&mut self, c: &Channel) {
+        let (number, density) = split(second::density(&c.top, &c.bottom));
+        let library = library::density(&c.top, &c.bottom);
+        self.same("density", c, number, Density { number, density }, library);
+        let (number, length) = split(second::need(&c.top, &c.bottom));
+        let library = library::need(&c.top, &c.bottom);
+        self.same("need", c, number, Need { number, length }, library);
+    }
+
+    /// Routing into slices too short, just long enough and longer.
+    fn routes(&mut self, rng: &mut Rng, c: &Channel) {
+        let need = second::need(&c.top, &c.bottom).unwrap_or(0);
+        let longer = need + rng.from(1, 40);
+        let shorter = need.saturating_sub(if rng.percent(80) { 1 } else { rng.under(need + 1) });
+        for room in [shorter, need, longer] {
+            let mut ours: Vec<u16> = (0..room).map(|i| 40000 + (i % 9999) as u16).collect();
+            let mut theirs = ours.clone();
+            let (number, figures) = split(second::route(&c.top, &c.bottom, &mut ours));
+            let second::Figures { density, tracks, width } = figures;
+            let library = library::route(&c.top, &c.bottom, &mut theirs);
+            self.same("route", c, number, Routed { number, density, tracks, width }, library);
+            let place = ours.iter().zip(&theirs).position(|(a, b)| a != b);
+            self.same("layout, first different entry", c, number, None, place);
+        }
+    }
+
+    fn checks(&mut self, c: &Channel, d: &Drawing) {
+        let (number, place) = second::check(&c.top, &c.bottom, d.w, d.t, &d.entries);
+        let library = library::check(&c.top, &c.bottom, d.w, d.t, &d.entries);
+        let call = format!("check, w {} t {}", d.w, d.t);
+        self.same(&call, c, number, Checked { number, place }, library);
+    }
+
+    /// The checkers on the library's drawing, on damaged ones and on scribbles.
+    fn drawings(&mut self, rng: &mut Rng, c: &Channel) {
+        let mut entries = vec![0; second::need(&c.top, &c.bottom).unwrap_or(6)];
+        let routed = library::route(&c.top, &c.bottom, &mut entries);
+        let (w, t) = (routed.width, routed.tracks);
+        let used = w.saturating_mul(t.saturating_mul(2).saturating_add(1));
+        if used > entries.len() {
+            return; // Wrong figures: `routes` has told of them.
+        }
+        entries.truncate(used);
+        let mut drawing = Drawing { w, t, entries };
+        self.columns(rng, c, &drawing);
+        self.checks(c, &drawing);
+        if rng.percent(20) {
+            drawing.widen(rng.from(1, 3));
+            drawing.heighten();
+            self.checks(c, &drawing);
+        }
+        let large = drawing.entries.len() > 20_000;
+        for _ in 0..if large { 1 } else { 4 } {
+            let mut damaged = drawing.clone();
+            damage::drawing(rng, c, &mut damaged);
+            self.checks(c, &damaged);
+        }
+        if c.top.len() <= 6 {
+            for _ in 0..6 {
+                self.checks(c, &damage::scribble(rng, c));
+            }
+        }
+    }
+
+    /// Single columns, and measures that leave an empty part.
+    fn columns(&mut self, rng: &mut Rng, c: &Channel, d: &Drawing) {
+        let strange = [0, 1, 511, 512, usize::MAX, usize::MAX / 2 + 1];
+        for _ in 0..4 {
+            let mut measures = [d.entries.len(), d.w, d.t, rng.from(0, d.w + 1)];
+            if rng.percent(25) {
+                measures[rng.under(4)] = rng.pick(&strange);
+            }
+            let [len, w, t, at] = measures;
+            let ours = second::column(len, w, t, at).unwrap_or(0..0);
+            let library = library::column(len, w, t, at);
+            let call = format!("column {at} of {len} entries, w {w} t {t}");
+            self.same(&call, c, 0, ours.len(), library.length);
+            if !ours.is_empty() {
+                self.same(&call, c, 0, ours.start, library.offset);
+            }
+        }
+    }
+
+    fn reports(&mut self, rng: &mut Rng, c: &Channel) {
+        for room in [768, rng.pick(&[0, 3, 765, 766, 767]), rng.from(769, 780)] {
+            let mut ours: Vec<u16> = (0..room).map(|i| 50000 + i as u16).collect();
+            let mut theirs = ours.clone();
+            let (number, ()) = split(second::report(&c.top, &c.bottom, &mut ours));
+            let library = library::report(&c.top, &c.bottom, &mut theirs);
+            self.same("report", c, number, number, library);
+            let place = ours.iter().zip(&theirs).position(|(a, b)| a != b);
+            self.same("table, first different number", c, number, None, place);
+        }
+    }
+
+    /// The listings of the channel's record and of damaged ones.
+    fn lists(&mut self, rng: &mut Rng, c: &Channel) {
+        let record = damage::record(c);
+        self.listing(c, &record);
+        if rng.percent(40) {
+            let mut damaged = record;
+            damage::bytes(rng, &mut damaged);
+            self.listing(c, &damaged);
+        }
+    }
+
+    fn listing(&mut self, c: &Channel, record: &[u8]) {
+        let ours = second::list(record);
+        let length = library::list(record, &mut self.text).min(TEXT);
+        let number = ours.strip_prefix("refused ").map_or(0, |n| n.trim().parse().unwrap());
+        let theirs = String::from_utf8_lossy(&self.text[..length]).into_owned();
+        let spilt = self.text[length..].iter().any(|&byte| byte != MARK);
+        self.text.fill(MARK);
+        self.same("list", c, number, ours, theirs);
+        self.same("list, bytes after the text written", c, number, false, spilt);
+    }
+}
+
+/// The number and the figures of an answer: zeros on refusal.
+fn split<T: Default>(answer: Result<T, u16>) -> (u16, T) {
+    match answer {
+        Ok(figures) => (0, figures),
+        Err(number) => (number, T::default()),
+    }
+}

@@ -1,0 +1,192 @@
+//! Damage to rows, drawings and records.
+
+use crate::random::{Channel, Rng};
+
+/// A drawing that is given to the checkers.
+#[derive(Clone)]
+pub struct Drawing {
+    pub w: usize,
+    pub t: usize,
+    pub entries: Vec<u16>,
+}
+
+impl Drawing {
+    fn each(&self) -> usize {
+        2 * self.t + 1
+    }
+
+    /// Adds empty columns on the right.
+    pub fn widen(&mut self, by: usize) {
+        self.w += by;
+        self.entries.resize(self.w * self.each(), 0);
+    }
+
+    /// Adds an empty track above the others.
+    pub fn heighten(&mut self) {
+        let mut entries = Vec::new();
+        for column in self.entries.chunks(self.each()) {
+            let (vertical, leaving) = column.split_at(self.t + 1);
+            entries.extend_from_slice(vertical);
+            entries.push(vertical[self.t]);
+            entries.extend_from_slice(leaving);
+            entries.push(0);
+        }
+        self.t += 1;
+        self.entries = entries;
+    }
+}
+
+/// An entry that may be blank, a net of the channel, or a stranger.
+fn entry(rng: &mut Rng, channel: &Channel) -> u16 {
+    let all: Vec<u16> = channel.top.iter().chain(&channel.bottom).copied().collect();
+    match rng.under(20) {
+        0 => rng.from(1, 256) as u16,
+        1 => rng.pick(&[257, 258, 511, 512, 32768, 65535]),
+        2..9 => 0,
+        _ if all.is_empty() => 0,
+        _ => rng.pick(&all),
+    }
+}
+
+/// Damages a drawing, or only its measures.
+pub fn drawing(rng: &mut Rng, channel: &Channel, drawing: &mut Drawing) {
+    let (w, t, each, len) = (drawing.w, drawing.t, drawing.each(), drawing.entries.len());
+    match rng.under(16) {
+        0 => {
+            drawing.w = rng.pick(&[w + 1, w.wrapping_sub(1), 511, 512, usize::MAX, usize::MAX / 2])
+        }
+        1 => {
+            drawing.t = rng.pick(&[t + 1, t.wrapping_sub(1), 511, 512, usize::MAX, usize::MAX / 2])
+        }
+        2 => drawing.entries.truncate(len.saturating_sub(rng.from(1, 3))),
+        3 => drawing.entries.push(0),
+        4 => {
+            drawing.w = channel.top.len();
+            drawing.entries.truncate(drawing.w * each);
+        }
+        5 => {
+            drawing.w = w.saturating_sub(1);
+            drawing.entries.truncate(drawing.w * each);
+        }
+        _ if len == 0 => {}
+        6 if t > 0 => {
+            let place = len - rng.from(1, t);
+            drawing.entries[place] = entry(rng, channel);
+        }
+        7 => {
+            let place = rng.under(w) * each + rng.pick(&[0, t]);
+            drawing.entries[place] = entry(rng, channel);
+        }
+        8 => {
+            let (a, b) = (rng.under(len), rng.under(len));
+            drawing.entries.swap(a, b);
+        }
+        9 | 10 => {
+            let used: Vec<usize> = (0..len).filter(|&i| drawing.entries[i] != 0).collect();
+            if !used.is_empty() {
+                drawing.entries[rng.pick(&used)] = 0;
+            }
+        }
+        _ => {
+            for _ in 0..rng.pick(&[1, 1, 1, 2, 3, 5]) {
+                let place = rng.under(len);
+                drawing.entries[place] = entry(rng, channel);
+            }
+        }
+    }
+}
+
+/// A drawing at random whose pin edges and last column are right: whether it
+/// is a solution rests on the pieces of its nets.
+pub fn scribble(rng: &mut Rng, channel: &Channel) -> Drawing {
+    let n = channel.top.len();
+    let (w, t) = (n + rng.under(3), rng.under(5));
+    let mut nets: Vec<u16> = channel.top.iter().chain(&channel.bottom).copied().collect();
+    nets.retain(|&net| net != 0);
+    let mut drawing = Drawing { w, t, entries: vec![0; w * (2 * t + 1)] };
+    let each = drawing.each();
+    let blank = rng.pick(&[0, 10, 30, 60]);
+    if !nets.is_empty() {
+        for entry in &mut drawing.entries {
+            *entry = if rng.percent(blank) { 0 } else { rng.pick(&nets) };
+        }
+    }
+    for (c, column) in drawing.entries.chunks_mut(each).enumerate() {
+        column[0] = channel.bottom.get(c).copied().unwrap_or(0);
+        column[t] = channel.top.get(c).copied().unwrap_or(0);
+    }
+    let kept = drawing.entries.len().saturating_sub(t);
+    drawing.entries[kept..].fill(0);
+    drawing
+}
+
+/// Damages rows so that most are refused.
+pub fn rows(rng: &mut Rng, channel: &mut Channel) {
+    for _ in 0..rng.from(1, 2) {
+        let row = if rng.percent(50) { &mut channel.top } else { &mut channel.bottom };
+        match rng.under(8) {
+            0 => row.push(rng.under(4) as u16),
+            1 => drop(row.pop()),
+            2 => {
+                let n = rng.from(254, 260);
+                channel.top.resize(n, 0);
+                channel.bottom.resize(n, 0);
+            }
+            3 | 4 if !row.is_empty() => {
+                let place = rng.under(row.len());
+                row[place] = rng.pick(&[256, 257, 258, 512, 513, 32769, 65535]);
+            }
+            _ if !row.is_empty() => {
+                let place = rng.under(row.len());
+                row[place] = rng.under(257) as u16;
+            }
+            _ => {}
+        }
+    }
+}
+
+/// The record of a channel.
+pub fn record(channel: &Channel) -> Vec<u8> {
+    let n = channel.top.len() as u16;
+    let body = channel.top.iter().chain(&channel.bottom).copied();
+    let length = 4 + 2 * (channel.top.len() + channel.bottom.len()) as u16;
+    let words = [length, 1, n].into_iter().chain(body);
+    words.flat_map(u16::to_le_bytes).collect()
+}
+
+/// Writes the right length into a record.
+fn measure(record: &mut [u8]) {
+    if record.len() >= 2 {
+        let length = (record.len() - 2) as u16;
+        record[..2].copy_from_slice(&length.to_le_bytes());
+    }
+}
+
+/// Damages a record.
+pub fn bytes(rng: &mut Rng, record: &mut Vec<u8>) {
+    let place = rng.under(record.len());
+    match rng.under(9) {
+        0 => record.truncate(place),
+        1 => record.push(rng.under(256) as u8),
+        2 => record[place] = rng.under(256) as u8,
+        3 => record[rng.pick(&[0, 1])] ^= 1 << rng.under(8),
+        4 => record[rng.pick(&[2, 3])] ^= 1 << rng.under(8),
+        5 if record.len() > 5 => record[rng.pick(&[4, 5])] ^= 1 << rng.under(8),
+        6 => {
+            record.truncate(rng.from(0, 7));
+            measure(record);
+        }
+        7 => {
+            record.resize(rng.from(1024, 1036), 0);
+            let n = (record.len() - 6) / 4;
+            record[4..6].copy_from_slice(&(n as u16).to_le_bytes());
+            measure(record);
+        }
+        _ => {
+            let by = rng.from(1, 4);
+            let length = if rng.percent(50) { record.len() + by } else { record.len() - by };
+            record.resize(length, 0);
+            measure(record);
+        }
+    }
+}

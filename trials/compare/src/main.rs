@@ -1,0 +1,62 @@
+//! Trials: `trials [CHANNELS [SEED]]` runs the library beside the second
+//! router and checker on random channels and compares everything that the
+//! calls hand back or write. The run is the same for the same seed on any
+//! number of cores. Status 1 says that something differed.
+
+mod compare;
+mod damage;
+mod library;
+mod random;
+
+use compare::Tally;
+use std::process::ExitCode;
+use std::sync::atomic::{AtomicU64, Ordering};
+
+const CHANNELS: u64 = 120_000;
+const SEED: u64 = 20_241_016;
+
+/// Runs trials until all are taken.
+fn work(next: &AtomicU64, channels: u64, seed: u64) -> Tally {
+    let mut tally = Tally::new();
+    loop {
+        let trial = next.fetch_add(1, Ordering::Relaxed);
+        if trial >= channels {
+            return tally;
+        }
+        tally.trial(seed, trial);
+        if trial % 20_000 == 19_999 {
+            eprintln!("{} channels tried", trial + 1);
+        }
+    }
+}
+
+fn main() -> ExitCode {
+    let mut arguments = std::env::args().skip(1).map(|x| x.parse().expect("a number"));
+    let channels = arguments.next().unwrap_or(CHANNELS);
+    let seed = arguments.next().unwrap_or(SEED);
+    let cores = std::thread::available_parallelism().map_or(1, |n| n.get());
+    let start = std::time::Instant::now();
+    let next = AtomicU64::new(0);
+    let mut all = Tally::new();
+    std::thread::scope(|scope| {
+        let workers: Vec<_> =
+            (0..cores).map(|_| scope.spawn(|| work(&next, channels, seed))).collect();
+        workers.into_iter().for_each(|worker| all.add(worker.join().unwrap()));
+    });
+    all.shown.iter().take(5).for_each(|text| println!("{text}"));
+    let answers: Vec<String> =
+        all.numbers.iter().enumerate().map(|(n, count)| format!("{n}: {count}")).collect();
+    println!("answers by number: {}", answers.join(", "));
+    let untried = all.numbers.iter().filter(|&&count| count == 0).count();
+    println!(
+        "seed {seed}: {} channels, {} answers compared, {} differences, {:.0} s",
+        all.channels,
+        all.calls,
+        all.differences,
+        start.elapsed().as_secs_f64()
+    );
+    if untried > 0 {
+        println!("{untried} of the numbers 0 to 16 never came up: try more channels");
+    }
+    ExitCode::from((all.differences > 0 || untried > 0) as u8)
+}

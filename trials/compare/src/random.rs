@@ -1,0 +1,195 @@
+//! Random numbers and random channels.
+
+/// A generator of random numbers (splitmix64).
+pub struct Rng(u64);
+
+impl Rng {
+    /// The generator of one trial, so that a run does not depend on threads.
+    pub fn of(seed: u64, trial: u64) -> Rng {
+        let mut rng = Rng(seed ^ trial.wrapping_mul(0xd134_2543_de82_ef95));
+        rng.next();
+        rng
+    }
+
+    pub fn next(&mut self) -> u64 {
+        self.0 = self.0.wrapping_add(0x9e37_79b9_7f4a_7c15);
+        let x = (self.0 ^ (self.0 >> 30)).wrapping_mul(0xbf58_476d_1ce4_e5b9);
+        let x = (x ^ (x >> 27)).wrapping_mul(0x94d0_49bb_1331_11eb);
+        x ^ (x >> 31)
+    }
+
+    /// A number under a bound, which is at least 1.
+    pub fn under(&mut self, bound: usize) -> usize {
+        (self.next() % bound as u64) as usize
+    }
+
+    /// A number from one to another, both possible.
+    pub fn from(&mut self, low: usize, high: usize) -> usize {
+        low + self.under(high - low + 1)
+    }
+
+    pub fn percent(&mut self, chance: usize) -> bool {
+        self.under(100) < chance
+    }
+
+    pub fn shuffle<T>(&mut self, list: &mut [T]) {
+        for i in (1..list.len()).rev() {
+            list.swap(i, self.under(i + 1));
+        }
+    }
+
+    pub fn pick<T: Copy>(&mut self, list: &[T]) -> T {
+        list[self.under(list.len())]
+    }
+}
+
+/// The two rows of a channel.
+#[derive(Clone, Debug)]
+pub struct Channel {
+    pub top: Vec<u16>,
+    pub bottom: Vec<u16>,
+}
+
+/// The channels of up to three columns with numbers 0 to 3, one for each index
+/// under 1 + 16 + 256 + 4096; most of them are refused.
+pub fn small(mut index: u64) -> Option<Channel> {
+    for n in 0..=3 {
+        let count = 16u64.pow(n);
+        if index < count {
+            let number = |i: u32| ((index >> (2 * i)) & 3) as u16;
+            let top = (0..n).map(number).collect();
+            let bottom = (n..2 * n).map(number).collect();
+            return Some(Channel { top, bottom });
+        }
+        index -= count;
+    }
+    None
+}
+
+/// A number of columns: mostly few, now and then up to 256.
+fn columns(rng: &mut Rng) -> usize {
+    match rng.under(1000) {
+        0..100 => rng.under(4),
+        100..600 => rng.under(17),
+        600..850 => rng.under(41),
+        850..970 => rng.under(65),
+        970..994 => rng.from(65, 128),
+        994..999 => rng.from(129, 256),
+        _ => 256,
+    }
+}
+
+/// Net numbers in random order: low ones, or any up to 256.
+fn numbers(rng: &mut Rng, most: usize) -> Vec<u16> {
+    let last = if rng.percent(50) { most.clamp(1, 256) } else { 256 };
+    let mut numbers: Vec<u16> = (1..=last as u16).collect();
+    rng.shuffle(&mut numbers);
+    numbers
+}
+
+/// A channel that is not refused, of one of seven families.
+pub fn any(rng: &mut Rng) -> Channel {
+    let n = columns(rng);
+    let mut slots = vec![0; 2 * n];
+    match rng.under(7) {
+        0 => spread(rng, &mut slots, 2, 2, 100),
+        1 => {
+            let most = rng.from(3, 8);
+            spread(rng, &mut slots, 2, most, 100)
+        }
+        2 => halves(rng, &mut slots),
+        3 => {
+            let most = rng.from(2, 5);
+            let share = rng.from(5, 60);
+            spread(rng, &mut slots, 2, most, share)
+        }
+        4 => local(rng, &mut slots),
+        5 => few(rng, &mut slots),
+        _ => pairs(rng, &mut slots),
+    }
+    mend(rng, &mut slots);
+    let top = slots.iter().step_by(2).copied().collect();
+    let bottom = slots.iter().skip(1).step_by(2).copied().collect();
+    Channel { top, bottom }
+}
+
+/// Nets of some pins each, spread over a share of the places.
+fn spread(rng: &mut Rng, slots: &mut [u16], least: usize, most: usize, share: usize) {
+    let mut places: Vec<usize> = (0..slots.len()).collect();
+    rng.shuffle(&mut places);
+    places.truncate(slots.len() * share / 100);
+    let mut left = &places[..];
+    for net in numbers(rng, slots.len() / 2) {
+        let pins = rng.from(least, most);
+        if left.len() < pins {
+            break;
+        }
+        left[..pins].iter().for_each(|&place| slots[place] = net);
+        left = &left[pins..];
+    }
+}
+
+/// The densest: each net has its first pin left and its last pin right.
+fn halves(rng: &mut Rng, slots: &mut [u16]) {
+    let half = slots.len() / 2;
+    let mut nets = numbers(rng, half);
+    nets.truncate(half);
+    for part in slots.chunks_mut(half.max(1)) {
+        rng.shuffle(&mut nets);
+        part.iter_mut().zip(&nets).for_each(|(slot, &net)| *slot = net);
+    }
+}
+
+/// Nets whose pins lie close together.
+fn local(rng: &mut Rng, slots: &mut [u16]) {
+    let reach = rng.from(2, 12);
+    let most = rng.pick(&[2, 2, 3, 5]);
+    for net in numbers(rng, slots.len()) {
+        let Some(from) = slots.len().checked_sub(reach) else { return };
+        let from = rng.from(0, from);
+        let mut places: Vec<usize> = (from..from + reach).filter(|&i| slots[i] == 0).collect();
+        rng.shuffle(&mut places);
+        let pins = rng.from(2, most);
+        if places.len() >= pins {
+            places[..pins].iter().for_each(|&place| slots[place] = net);
+        }
+    }
+}
+
+/// A few nets with very many pins.
+fn few(rng: &mut Rng, slots: &mut [u16]) {
+    let mut nets = numbers(rng, 9);
+    nets.truncate(rng.from(1, 9));
+    let blank = rng.pick(&[0, 10, 50]);
+    for slot in slots {
+        *slot = if rng.percent(blank) { 0 } else { rng.pick(&nets) };
+    }
+}
+
+/// Many columns with both pins of one net.
+fn pairs(rng: &mut Rng, slots: &mut [u16]) {
+    few(rng, slots);
+    for column in slots.chunks_mut(2) {
+        if rng.percent(40) {
+            column[1] = column[0];
+        }
+    }
+}
+
+/// Takes away, or doubles, the pins of nets with one pin.
+fn mend(rng: &mut Rng, slots: &mut [u16]) {
+    let mut pins = [0; 257];
+    slots.iter().for_each(|&net| pins[net as usize] += 1);
+    for i in 0..slots.len() {
+        let net = slots[i] as usize;
+        if net == 0 || pins[net] != 1 {
+            continue;
+        }
+        let blank = (0..slots.len()).filter(|&j| slots[j] == 0).nth(rng.under(4));
+        match blank {
+            Some(place) => slots[place] = slots[i],
+            None => slots[i] = 0,
+        }
+        pins[net] = 2;
+    }
+}

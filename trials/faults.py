@@ -1,0 +1,133 @@
+#!/usr/bin/env python3
+"""Tries out the trials: plants one fault after the other in the baseline,
+which stands in for the library, and sees that the trials find each of them.
+
+    python3 trials/faults.py            all faults, after a run without any
+    python3 trials/faults.py LABEL ...  only these
+"""
+
+import os
+import pathlib
+import shutil
+import subprocess
+import sys
+
+HERE = pathlib.Path(__file__).resolve().parent
+WORK = HERE / "target" / "faults"
+CHANNELS = "10000"
+
+ROWS, CHECK, LIST, ROUTE = (f"baseline/src/{x}.rs" for x in ("rows", "check", "list", "route"))
+CALLS = "standin/src/lib.rs"
+
+# Label, file, text, text with the fault.
+FAULTS = [
+    ("column limit", ROWS, "top.len() > most", "top.len() > most + 1"),
+    ("single pin in column 1", ROWS, "net.pins == 1)", "net.pins == 1 && net.first > 1)"),
+    ("density in columns", ROWS, "change[net.last as usize] -= 1",
+     "change[(net.last as usize + 1).min(256)] -= 1"),
+    ("last gap left out", ROWS, ".take(n)", ".take(n.saturating_sub(1))"),
+    ("pins over nine", ROWS, "net.last, net.pins]", "net.last, net.pins.min(9)]"),
+    ("table one number short", ROWS, "< 3 * 256 {", "< 3 * 256 - 1 {"),
+    ("257th record written", ROWS, ".zip(&nets[1..])", ".zip(nets[1..].iter().chain(&nets[..1]))"),
+    ("pieces never counted", CHECK, "count > 1)", "count > 500)"),
+    ("highest broken net", CHECK, ".position(|&count|", ".rposition(|&count|"),
+    ("a cycle taken for a join", CHECK, "if a != b {", "if a != b || a > 0 {"),
+    ("net 256 always known", CHECK, "x == 0 || nets", "x == 0 || x == 256 || nets"),
+    ("top edges past n", CHECK, "if column[t] != pin(top, c)", "if c < top.len() && column[t] != pin(top, c)"),
+    ("last horizontal edge", CHECK, "layout.len().min(t)", "layout.len().min(t.saturating_sub(1))"),
+    ("place in the last column", CHECK, "(15, end + place)", "(15, place)"),
+    ("width 512", CHECK, "|| w > 511", "|| w > 512"),
+    ("tracks 511", CHECK, "if t > 511", "if t > 510"),
+    ("last column hidden", CHECK, "(1..=w).contains", "(1..w).contains"),
+    ("kind by one byte", LIST, "words[1] != 1", "words[1] & 255 != 1"),
+    ("record of 1,031 bytes", LIST, "4..=1030", "4..=1031"),
+    ("65 columns listed", LIST, "&bottom, 64)", "&bottom, 65)"),
+    ("blank after the bar", LIST, "writeln!(text).unwrap()",
+     'writeln!(text, "{}", if t == 0 { " " } else { "" }).unwrap()'),
+    ("a byte after the text", LIST, "    room - rest.len()", "    rest[0] = 0;\n    room - rest.len()"),
+    ("need rounded up", ROUTE, "Ok((top.len() + t / 2)", "Ok((top.len() + t.div_ceil(2))"),
+    ("slice too short taken", ROUTE, "if layout.len() <", "if layout.len() + 1 <"),
+    ("refused slice written", ROUTE, "return Err(8);", "layout.fill(0);\n        return Err(8);"),
+    ("figure on refusal", CALLS, "Routed { number, density: 0", "Routed { number, density: 1"),
+    ("entries after the drawing", ROUTE, "        width\n    }",
+     "        columns.next().map(|rest| rest.fill(0));\n        width\n    }"),
+    ("unjoined at the end", ROUTE, "while let Some(net) = self.stretched.lowest() {",
+     "while let Some(net) = self.stretched.lowest().filter(|_| many) {"),
+    ("added columns in another order", ROUTE, "while let Some(net) = self.stretched.lowest() {",
+     "while let Some(net) = self.stretched.lowest_but(self.stretched.lowest().unwrap_or(0))"
+     ".or(self.stretched.lowest()) {"),
+    ("free tracks exchanged", ROUTE, "self.add(f, q);\n                self.add(g, p);",
+     "self.add(g, q);\n                self.add(f, p);"),
+    ("free track beside a stretched net", ROUTE,
+     "if let Some(join) = join {\n            return self.join_for_pins(join as u16, p, q);",
+     "if let Some(join) = join.filter(|_| self.kind(p) != Starts) {\n"
+     "            return self.join_for_pins(join as u16, p, q);"),
+    ("wide before stretched", ROUTE,
+     "let join = self.stretched.lowest().or_else(|| self.wide.lowest());\n        if p == q",
+     "let join = self.wide.lowest().or_else(|| self.stretched.lowest());\n        if p == q"),
+    ("wide from four strands", ROUTE, "(true, 3..)", "(true, 4..)"),
+    ("second highest strand", ROUTE, "(s.low + 1..s.high).find", "(s.low + 1..s.high).rfind"),
+    ("both end, other order", ROUTE, "        } else {\n            self.end_top(p, q)",
+     "        } else {\n            self.end_bottom(p, q)"),
+    ("both end, highest for lowest", ROUTE, "(self.strands[p as usize].low, self.strands[q as usize].high)",
+     "(self.strands[p as usize].high, self.strands[q as usize].high)"),
+    ("top ends, highest given", ROUTE, "let low = self.strands[p as usize].low;",
+     "let low = self.strands[p as usize].high;"),
+    ("bottom ends, lowest given", ROUTE, "let high = self.strands[q as usize].high;",
+     "let high = self.strands[q as usize].low;"),
+    ("rule 4, top", ROUTE, "if f < s.high {", "if f < s.low {"),
+    ("rule 4, bottom", ROUTE, "if s.low < f {", "if s.high < f {"),
+    ("rule 5, top with two", ROUTE, "if ps.count > 1 {", "if ps.count > 2 {"),
+    ("rule 5, bottom with two", ROUTE, "if qs.count > 1 {", "if qs.count > 2 {"),
+    ("rule 5, free track", ROUTE, "self.add(f, p);\n        self.add(m, q);\n        Verticals",
+     "self.add(f, q);\n        self.add(m, p);\n        Verticals"),
+    ("both pins, highest kept", ROUTE, "self.add(strands.low, p);", "self.add(strands.high, p);"),
+    ("both pins, rule 2 left out", ROUTE, "if let Some(join) = join {\n                return",
+     "if let Some(join) = join.filter(|_| false) {\n                return"),
+]
+
+
+def cargo(folder, target, *words, **settings):
+    command = ["cargo", *words, "--release", "--offline", "--quiet"]
+    env = dict(os.environ, CARGO_TARGET_DIR=str(target), RUSTFLAGS="-Awarnings", **settings)
+    subprocess.run(command, cwd=folder, env=env, check=True)
+
+
+def trial(edit):
+    """Builds the stand-in with an edit, links the trials with it, runs them."""
+    source = WORK / "source"
+    shutil.rmtree(source, ignore_errors=True)
+    for crate in ("baseline", "standin"):
+        # New times, so that cargo builds what an earlier fault had changed.
+        shutil.copytree(HERE / crate, source / crate, copy_function=shutil.copyfile)
+    (source / "Cargo.toml").write_text('[workspace]\nresolver = "2"\nmembers = ["baseline", "standin"]\n')
+    if edit:
+        file, old, new = edit
+        text = (source / file).read_text()
+        assert text.count(old) == 1, f"{old!r} stands {text.count(old)} times in {file}"
+        (source / file).write_text(text.replace(old, new))
+    cargo(source, WORK / "library", "build", "-p", "standin")
+    library = WORK / "library" / "release"
+    cargo(HERE, WORK / "trials", "build", "-p", "compare", GAXWETHI_LIB=str(library))
+    program = WORK / "trials" / "release" / "trials"
+    run = subprocess.run([program, CHANNELS], capture_output=True, text=True)
+    summary = [line for line in run.stdout.splitlines() if line.startswith("seed")]
+    return run.returncode, summary[0] if summary else "ended by a crash"
+
+
+def main():
+    wanted = sys.argv[1:]
+    status, summary = trial(None)
+    print(f"no fault: status {status}, {summary}", flush=True)
+    bad = status != 0
+    faults = [f for f in FAULTS if not wanted or f[0] in wanted]
+    for label, *edit in faults:
+        status, summary = trial(edit)
+        bad = bad or status == 0
+        print(f"{'MISSED' if status == 0 else 'found '} {label}: {summary}", flush=True)
+    print(f"{len(faults)} faults planted, {'some missed' if bad else 'all found'}")
+    return int(bad)
+
+
+if __name__ == "__main__":
+    sys.exit(main())

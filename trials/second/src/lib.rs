@@ -1,0 +1,33 @@
+//! A second knock-knee channel router and checker.
+//!
+//! It was written from the scope paper alone and shares no code with the
+//! library. It keeps to the paper's words and does everything in the plainest
+//! way: the state of a sweep is the list of nets on the tracks, and every
+//! question about it is answered by looking through that list.
+
+pub mod check;
+pub mod record;
+pub mod rows;
+pub mod sweep;
+
+pub use check::{check, column};
+pub use record::list;
+pub use rows::{density, need, report};
+pub use sweep::route;
+
+/// The most columns that a library call takes.
+pub const MOST_COLUMNS: usize = 256;
+/// The most columns that `knee` takes.
+pub const MOST_LISTED: usize = 64;
+/// The highest net number.
+pub const MOST_NETS: usize = 256;
+/// The largest width and the most tracks that the calls take.
+pub const LIMIT: usize = 511;
+
+/// The figures of a routed channel.
+#[derive(Clone, Copy, Debug, Default, PartialEq, Eq)]
+pub struct Figures {
+    pub density: usize,
+    pub tracks: usize,
+    pub width: usize,
+}

@@ -1,0 +1,125 @@
+//! What the rows alone settle: refusals 4 to 7, density, tracks, the slice
+//! length that a layout needs, and the net report.
+
+use crate::{MOST_COLUMNS, MOST_NETS};
+
+/// Where the pins of each net lie.
+#[derive(Debug)]
+pub struct Nets {
+    /// For each number, the columns of its pins in rising order, counted from 1.
+    columns: Vec<Vec<usize>>,
+}
+
+impl Nets {
+    /// Gathers the pins of two rows whose numbers are all 0 to 256.
+    pub fn of(top: &[u16], bottom: &[u16]) -> Nets {
+        let mut columns = vec![Vec::new(); MOST_NETS + 1];
+        for (i, (&a, &b)) in top.iter().zip(bottom).enumerate() {
+            for net in [a, b] {
+                if net != 0 {
+                    columns[net as usize].push(i + 1);
+                }
+            }
+        }
+        Nets { columns }
+    }
+
+    /// The number of pins of a net.
+    pub fn pins(&self, net: u16) -> usize {
+        self.columns[net as usize].len()
+    }
+
+    /// The column of a net's first pin.
+    pub fn first(&self, net: u16) -> usize {
+        self.columns[net as usize][0]
+    }
+
+    /// The column of a net's last pin.
+    pub fn last(&self, net: u16) -> usize {
+        *self.columns[net as usize].last().unwrap()
+    }
+
+    /// The numbers in use, in rising order.
+    pub fn numbers(&self) -> impl Iterator<Item = u16> + '_ {
+        (1..=MOST_NETS as u16).filter(|&net| self.pins(net) > 0)
+    }
+
+    /// Whether some net has three or more pins.
+    pub fn many(&self) -> bool {
+        self.numbers().any(|net| self.pins(net) > 2)
+    }
+}
+
+/// The number of the refusal that the rows meet, 4 to 7, or the nets.
+pub fn nets(top: &[u16], bottom: &[u16], most: usize) -> Result<Nets, u16> {
+    if top.len() != bottom.len() {
+        return Err(4);
+    }
+    if top.len() > most {
+        return Err(5);
+    }
+    if top.iter().chain(bottom).any(|&x| x as usize > MOST_NETS) {
+        return Err(6);
+    }
+    let nets = Nets::of(top, bottom);
+    let single = nets.numbers().any(|net| nets.pins(net) == 1);
+    if single {
+        return Err(7);
+    }
+    Ok(nets)
+}
+
+/// The largest count, over the gaps, of nets with pins on both sides.
+pub fn density_of(nets: &Nets, n: usize) -> usize {
+    let crossing = |gap: usize| {
+        nets.numbers().filter(|&net| nets.first(net) <= gap && nets.last(net) > gap).count()
+    };
+    (1..n).map(crossing).max().unwrap_or(0)
+}
+
+/// The tracks of a channel of density d.
+pub fn tracks_of(nets: &Nets, d: usize) -> usize {
+    if nets.many() {
+        2 * d - 1
+    } else {
+        d
+    }
+}
+
+/// The entries that a layout slice must have room for.
+pub fn room(n: usize, t: usize) -> usize {
+    (n + t / 2) * (2 * t + 1)
+}
+
+/// The density of a channel, or its refusal.
+pub fn density(top: &[u16], bottom: &[u16]) -> Result<usize, u16> {
+    let nets = nets(top, bottom, MOST_COLUMNS)?;
+    Ok(density_of(&nets, top.len()))
+}
+
+/// The slice length that routing calls for, or the refusal.
+pub fn need(top: &[u16], bottom: &[u16]) -> Result<usize, u16> {
+    let nets = nets(top, bottom, MOST_COLUMNS)?;
+    let d = density_of(&nets, top.len());
+    Ok(room(top.len(), tracks_of(&nets, d)))
+}
+
+/// Fills a table of (first column, last column, pins), three numbers for each
+/// net. A refused call leaves the table as it was.
+pub fn report(top: &[u16], bottom: &[u16], figures: &mut [u16]) -> Result<(), u16> {
+    let nets = nets(top, bottom, MOST_COLUMNS)?;
+    if figures.len() / 3 < MOST_NETS {
+        return Err(9);
+    }
+    for (i, record) in figures.chunks_exact_mut(3).take(MOST_NETS).enumerate() {
+        let net = i as u16 + 1;
+        let filled = match nets.pins(net) {
+            0 => [0; 3],
+            pins => [nets.first(net), nets.last(net), pins],
+        };
+        for (slot, value) in record.iter_mut().zip(filled) {
+            *slot = value as u16;
+        }
+    }
+    Ok(())
+}

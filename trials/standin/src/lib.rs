@@ -1,0 +1,129 @@
+//! The baseline behind the library's C calls: it stands in for the library
+//! where the trials themselves are tried out on planted faults.
+
+use std::panic::{catch_unwind, AssertUnwindSafe};
+use std::slice::{from_raw_parts, from_raw_parts_mut};
+
+const TEXT: usize = 131_072;
+
+#[repr(C)]
+pub struct Figure {
+    number: u16,
+    value: usize,
+}
+
+#[repr(C)]
+pub struct Routed {
+    number: u16,
+    density: usize,
+    tracks: usize,
+    width: usize,
+}
+
+#[repr(C)]
+pub struct Part {
+    offset: usize,
+    length: usize,
+}
+
+/// The number that a call answers with where a planted fault made it panic.
+const PANIC: u16 = 99;
+
+fn guarded<T>(call: impl FnOnce() -> Result<T, u16>) -> Result<T, u16> {
+    catch_unwind(AssertUnwindSafe(call)).unwrap_or(Err(PANIC))
+}
+
+fn figure(call: impl FnOnce() -> Result<usize, u16>) -> Figure {
+    match guarded(call) {
+        Ok(value) => Figure { number: 0, value },
+        Err(number) => Figure { number, value: 0 },
+    }
+}
+
+/// # Safety
+/// As in `include/gaxwethi.h`; so it is for all calls below.
+#[no_mangle]
+pub unsafe extern "C" fn gaxwethi_density(
+    top: *const u16,
+    n: usize,
+    bottom: *const u16,
+    m: usize,
+) -> Figure {
+    let (top, bottom) = (from_raw_parts(top, n), from_raw_parts(bottom, m));
+    figure(|| baseline::density(top, bottom))
+}
+
+/// # Safety
+#[no_mangle]
+pub unsafe extern "C" fn gaxwethi_need(
+    top: *const u16,
+    n: usize,
+    bottom: *const u16,
+    m: usize,
+) -> Figure {
+    let (top, bottom) = (from_raw_parts(top, n), from_raw_parts(bottom, m));
+    figure(|| baseline::need(top, bottom))
+}
+
+/// # Safety
+#[no_mangle]
+pub unsafe extern "C" fn gaxwethi_route(
+    top: *const u16,
+    n: usize,
+    bottom: *const u16,
+    m: usize,
+    layout: *mut u16,
+    len: usize,
+) -> Routed {
+    let (top, bottom) = (from_raw_parts(top, n), from_raw_parts(bottom, m));
+    let layout = from_raw_parts_mut(layout, len);
+    match guarded(|| baseline::route(top, bottom, layout)) {
+        Ok(f) => Routed { number: 0, density: f.density, tracks: f.tracks, width: f.width },
+        Err(number) => Routed { number, density: 0, tracks: 0, width: 0 },
+    }
+}
+
+/// # Safety
+#[no_mangle]
+pub unsafe extern "C" fn gaxwethi_check(
+    top: *const u16,
+    n: usize,
+    bottom: *const u16,
+    m: usize,
+    w: usize,
+    t: usize,
+    layout: *const u16,
+    len: usize,
+) -> Figure {
+    let (top, bottom) = (from_raw_parts(top, n), from_raw_parts(bottom, m));
+    let (number, value) = baseline::check(top, bottom, w, t, from_raw_parts(layout, len));
+    Figure { number, value }
+}
+
+/// # Safety
+#[no_mangle]
+pub unsafe extern "C" fn gaxwethi_report(
+    top: *const u16,
+    n: usize,
+    bottom: *const u16,
+    m: usize,
+    figures: *mut u16,
+    len: usize,
+) -> u16 {
+    let (top, bottom) = (from_raw_parts(top, n), from_raw_parts(bottom, m));
+    let figures = from_raw_parts_mut(figures, len);
+    guarded(|| baseline::report(top, bottom, figures)).err().unwrap_or(0)
+}
+
+#[no_mangle]
+pub extern "C" fn gaxwethi_column(len: usize, w: usize, t: usize, c: usize) -> Part {
+    let (offset, length) = baseline::column(len, w, t, c);
+    Part { offset, length }
+}
+
+/// # Safety
+#[no_mangle]
+pub unsafe extern "C" fn gaxwethi_list(record: *const u8, len: usize, text: *mut u8) -> usize {
+    let (record, text) = (from_raw_parts(record, len), from_raw_parts_mut(text, TEXT));
+    guarded(|| Ok(baseline::list(record, text))).unwrap_or(0)
+}
