@@ -96,7 +96,8 @@ module _ (top bottom old : List ℕ) (k : ℕ) (e : k ≡ refused top bottom (le
       go (suc j) m = refl
 
   -- an accepted one leaves the records of the nets, and what stood behind them
-  pub put-figures : (xs : List NetRecord) (now : List ℕ) → k ≡ 0 → now ≡ flat xs ++ drop 768 old → xs ≡ records top bottom → now ≡ figuresAfter top bottom old
+  pub put-figures : (xs : List NetRecord) (now : List ℕ) → k ≡ 0 → now ≡ flat xs ++ drop 768 old → xs ≡ records top bottom
+      → now ≡ figuresAfter top bottom old
   unfolding figuresAfter
   put-figures xs now z p q =
       p ∙ ap (λ (l : List NetRecord). flat l ++ drop 768 old) q

@@ -1,9 +1,8 @@
 -- `gaxwethi_column` meets its contract: each refused case gives no part; the column's place is that in the largest drawing at most. Assumes nothing.
 use Prim.Native.Nat.{_+_, _*_, _-_}
-use mathlib.Core.Path.{_∙_}
-use borrow.Author.Tests.{eq-eqb, ne-eqb, lt-ltb, le-ltb}
+use mathlib.Core.Path.{refl, _∙_}
 use Rattle.grid.proofs.Views.{product-le}
-use Rattle.export.specs.Export.{partOf}
+use Rattle.export.proofs.Columns.{too-wide, too-tall, wrong-size, no-column, past-last, found}
 use native.Mathlib.Omega.{arith}
 use borrow.Author.Needs.{needs}
 use Rattle.export.proofs.gaxwethi_column.Statement.{statement}
@@ -13,23 +12,17 @@ no-part-requires : tie.Need-no-part-requires
 no-part-requires c κs = search needs
 
 returns : tie.Need-returns
-unfolding partOf
 returns c =
     let a = c .before .before .args in
-    let w = a .w in
-    let t = a .t in
-    c .no-part .ensures ∙ simp (lt-ltb 511 w (c .before .if1 .taken))
+    c .no-part .ensures ∙ too-wide (a .len) (a .w) (a .t) (a .c) (c .before .if1 .taken)
 
 no-part-requires-2 : tie.Need-no-part-requires-2
 no-part-requires-2 c κs = search needs
 
 returns-2 : tie.Need-returns-2
-unfolding partOf
 returns-2 c =
     let a = c .before .before .before .args in
-    let w = a .w in
-    let t = a .t in
-    c .no-part2 .ensures ∙ simp (le-ltb 511 w (c .before .before .if1 .left), lt-ltb 511 t (c .before .if2 .taken))
+    c .no-part2 .ensures ∙ too-tall (a .len) (a .w) (a .t) (a .c) (c .before .before .if1 .left) (c .before .if2 .taken)
 
 mul-size : tie.Need-mul-size
 mul-size c = search needs
@@ -46,34 +39,25 @@ no-part-requires-3 : tie.Need-no-part-requires-3
 no-part-requires-3 c κs = search needs
 
 returns-3 : tie.Need-returns-3
-unfolding partOf
 returns-3 c =
     let a = c .before .before .before .before .args in
-    let w = a .w in
-    let t = a .t in
-    c .no-part3 .ensures ∙ simp (le-ltb 511 w (c .before .before .before .if1 .left), le-ltb 511 t (c .before .before .if2 .left), ne-eqb (a .len) (w * (2 * t + 1)) (c .before .if3 .taken))
+    c .no-part3 .ensures ∙ wrong-size (a .len) (a .w) (a .t) (a .c) (c .before .before .before .if1 .left) (c .before .before .if2 .left) (c .before .if3 .taken)
 
 no-part-requires-4 : tie.Need-no-part-requires-4
 no-part-requires-4 c κs = search needs
 
 returns-4 : tie.Need-returns-4
-unfolding partOf
 returns-4 c =
     let a = c .before .before .before .before .before .args in
-    let w = a .w in
-    let t = a .t in
-    c .no-part4 .ensures ∙ simp (le-ltb 511 w (c .before .before .before .before .if1 .left), le-ltb 511 t (c .before .before .before .if2 .left), eq-eqb (a .len) (w * (2 * t + 1)) (c .before .before .if3 .left), lt-ltb (a .c) 1 (c .before .if4 .taken))
+    c .no-part4 .ensures ∙ no-column (a .len) (a .w) (a .t) (a .c) (c .before .before .before .before .if1 .left) (c .before .before .before .if2 .left) (c .before .before .if3 .left) (c .before .if4 .taken)
 
 no-part-requires-5 : tie.Need-no-part-requires-5
 no-part-requires-5 c κs = search needs
 
 returns-5 : tie.Need-returns-5
-unfolding partOf
 returns-5 c =
     let a = c .before .before .before .before .before .before .args in
-    let w = a .w in
-    let t = a .t in
-    c .no-part5 .ensures ∙ simp (le-ltb 511 w (c .before .before .before .before .before .if1 .left), le-ltb 511 t (c .before .before .before .before .if2 .left), eq-eqb (a .len) (w * (2 * t + 1)) (c .before .before .before .if3 .left), le-ltb (a .c) 1 (c .before .before .if4 .left), lt-ltb w (a .c) (c .before .if5 .taken))
+    c .no-part5 .ensures ∙ past-last (a .len) (a .w) (a .t) (a .c) (c .before .before .before .before .before .if1 .left) (c .before .before .before .before .if2 .left) (c .before .before .before .if3 .left) (c .before .before .if4 .left) (c .before .if5 .taken)
 
 mul-t8 : tie.Need-mul-t8
 mul-t8 c =
@@ -82,12 +66,9 @@ mul-t8 c =
     omega arith
 
 returns-6 : tie.Need-returns-6
-unfolding partOf
 returns-6 c =
     let a = c .before .before .before .before .before .args in
-    let w = a .w in
-    let t = a .t in
-    simp (le-ltb 511 w (c .before .before .before .before .if1 .left), le-ltb 511 t (c .before .before .before .if2 .left), eq-eqb (a .len) (w * (2 * t + 1)) (c .before .before .if3 .left), le-ltb (a .c) 1 (c .before .if4 .left), le-ltb w (a .c) (c .if5 .left))
+    found (a .len) (a .w) (a .t) (a .c) (c .before .before .before .before .if1 .left) (c .before .before .before .if2 .left) (c .before .before .if3 .left) (c .before .if4 .left) _ refl (c .if5 .left)
 
 pub gaxwethi-column-spec : {M : Type 1} → statement M
 gaxwethi-column-spec =

@@ -42,7 +42,8 @@ returns c =
     let a = f .before .before .before .before .before .before .before .before .before .before .args in
     let old = a .figures .now in
     let d = c .before .enum-told2 .given in
-    let x = of-rows (a .top .now) (a .bottom .now) (length old / 3) (f .net-facts .result) (d .0 .0) (c .number-of .result) (f .net-facts .ensures .0) (d .1) (c .number-of .ensures) in
+    let x = of-rows (a .top .now) (a .bottom .now) (length old / 3) (f .net-facts .result) (d .0 .0) (c .number-of .result)
+    (f .net-facts .ensures .0) (d .1) (c .number-of .ensures) in
     (x .1, kept-figures (a .top .now) (a .bottom .now) old (c .number-of .result) (x .1) (x .0))
 
 returns-2 : tie.Need-returns-2
