@@ -2,7 +2,9 @@
 //! plain fill of the layout, in one run, and prints a table in Markdown.
 //!
 //! `bench [REPETITIONS]`: each repetition times every side in turn, so that a
-//! disturbance of the machine falls on all of them; the medians count.
+//! disturbance of the machine falls on all of them; the medians count. A sample
+//! goes over many different channels, as a planner does, so that no side's
+//! branches are learned by heart.
 
 mod channels;
 
@@ -18,6 +20,9 @@ type Measure = fn(&[Case], usize) -> Vec<f64>;
 
 /// The channels of a row of the table are measured in this many groups.
 const GROUPS: usize = 4;
+
+/// A group has this many columns in all, so 64 channels of 256 columns.
+const COLUMNS: usize = 16384;
 
 /// The seconds that one sample takes at least. It is far less than the time
 /// that a busy machine gives a program in one go, so most samples are whole.
@@ -117,7 +122,7 @@ fn shown(seconds: f64) -> String {
 }
 
 fn main() {
-    let repetitions = std::env::args().nth(1).map_or(201, |x| x.parse().expect("a number"));
+    let repetitions = std::env::args().nth(1).map_or(51, |x| x.parse().expect("a number"));
     println!("# Benchmarks\n");
     println!("The library beside idiomatic Rust of the same algorithm, and beside a plain fill of");
     println!(
@@ -131,7 +136,7 @@ fn main() {
     for (call, measure) in calls {
         for n in [16, 64, 256] {
             for (pins, most) in [("2", 2), ("2 to 5", 5)] {
-                let times = measure(&cases(n, most, GROUPS * 256 / n), repetitions);
+                let times = measure(&cases(n, most, GROUPS * COLUMNS / n), repetitions);
                 let (library, rust) = (times[0], times[1]);
                 let fill = times.get(2).map_or(["–".into(), "–".into()], |fill| {
                     [shown(*fill), format!("{:.2}", library / fill)]
