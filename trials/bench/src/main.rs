@@ -1,10 +1,10 @@
 //! Times the library beside idiomatic Rust of the same algorithm and beside a
 //! plain fill of the layout, in one run, and prints a table in Markdown.
 //!
-//! `bench [REPETITIONS]`: each repetition times every side in turn, so that a
-//! disturbance of the machine falls on all of them; the medians count. A sample
-//! goes over many different channels, as a planner does, so that no side's
-//! branches are learned by heart.
+//! `bench [REPETITIONS [COLUMNS]]`: each repetition times every side in turn, so
+//! that a disturbance of the machine falls on all of them; the medians count. A
+//! sample goes over different channels with COLUMNS columns in all, as a planner
+//! does; with 256, each sample repeats one channel of 256 columns.
 
 mod channels;
 
@@ -21,7 +21,7 @@ type Measure = fn(&[Case], usize) -> Vec<f64>;
 /// The channels of a row of the table are measured in this many groups.
 const GROUPS: usize = 4;
 
-/// A group has this many columns in all, so 64 channels of 256 columns.
+/// A group has this many columns in all where no other number is given: 64 channels of 256 columns.
 const COLUMNS: usize = 16384;
 
 /// The seconds that one sample takes at least. It is far less than the time
@@ -122,7 +122,10 @@ fn shown(seconds: f64) -> String {
 }
 
 fn main() {
-    let repetitions = std::env::args().nth(1).map_or(51, |x| x.parse().expect("a number"));
+    let number = |k: usize, other: usize| {
+        std::env::args().nth(k).map_or(other, |x| x.parse().expect("a number"))
+    };
+    let (repetitions, columns) = (number(1, 51), number(2, COLUMNS));
     println!("# Benchmarks\n");
     println!("The library beside idiomatic Rust of the same algorithm, and beside a plain fill of");
     println!(
@@ -136,7 +139,7 @@ fn main() {
     for (call, measure) in calls {
         for n in [16, 64, 256] {
             for (pins, most) in [("2", 2), ("2 to 5", 5)] {
-                let times = measure(&cases(n, most, GROUPS * COLUMNS / n), repetitions);
+                let times = measure(&cases(n, most, GROUPS * columns / n), repetitions);
                 let (library, rust) = (times[0], times[1]);
                 let fill = times.get(2).map_or(["–".into(), "–".into()], |fill| {
                     [shown(*fill), format!("{:.2}", library / fill)]
