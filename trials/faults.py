@@ -32,6 +32,7 @@ FAULTS = [
     ("pieces never counted", CHECK, "count > 1)", "count > 500)"),
     ("highest broken net", CHECK, ".position(|&count|", ".rposition(|&count|"),
     ("a cycle taken for a join", CHECK, "if a != b {", "if a != b || a > 0 {"),
+    ("a touch taken for a crossing", CHECK, "left.0 == right && up != right", "left.0 == right"),
     ("net 256 always known", CHECK, "x == 0 || nets", "x == 0 || x == 256 || nets"),
     ("top edges past n", CHECK, "if column[t] != pin(top, c)", "if c < top.len() && column[t] != pin(top, c)"),
     ("last horizontal edge", CHECK, "layout.len().min(t)", "layout.len().min(t.saturating_sub(1))"),

@@ -45,6 +45,10 @@ fn pieces(w: usize, t: usize, layout: &[u16]) -> [u32; 257] {
         };
         for ((&up, &right), strand) in vertical[1..].iter().zip(leaving).zip(&mut strands) {
             let left = *strand;
+            let crossing = below.0 == up && left.0 == right && up != right;
+            if crossing {
+                continue;
+            }
             if below.0 != 0 && below.0 == left.0 {
                 pieces.merge(below.0, below.1, left.1);
             }
