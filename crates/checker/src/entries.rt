@@ -1,9 +1,11 @@
 // Tests of single entries: refusals 13 to 15.
 ghost use mathlib.Core.Path.{_≡_};
-ghost use Prim.Native.Nat.{_+_, _*_, _-_, _≤_};
+ghost use mathlib.Core.Bool.{true, false};
+ghost use Prim.Native.Nat.{ℕ, _+_, _*_, _-_, _≤_, _<_};
 ghost use lib.ListN.{length, getD};
+ghost use Rattle.grid.specs.Channel.{over};
 ghost use Rattle.checker.specs.Check.{lowest, strange, mispinned, loose};
-ghost use Rattle.checker.specs.Entries.{Known, unknown};
+ghost use Rattle.checker.specs.Entries.{Known, unknown, AllKnown, Marks};
 
 // An entry, 0 past the end.
 pub fn entry(layout: &[u16], i: usize) -> u16
@@ -43,11 +45,67 @@ fn find_unknown(layout: &[u16], pins: &[u16; 257]) -> usize
     layout.len()
 }
 
+// Whether a layout has a number over 256.
+fn has_over(layout: &[u16]) -> bool
+    ensures { λ r. ⌜ r ≡ over (now (layout .entry)) ⌝ }
+{
+    let mut found = false;
+    let mut i = 0;
+    while i < layout.len() {
+        found = found | (256 < layout[i]);
+        i += 1;
+    }
+    found
+}
+
+// Which numbers up to 256 are 0 or nets by the table.
+fn known_numbers(pins: &[u16; 257]) -> [bool; 257]
+    requires { ⌜ length (now pins) ≡ 257 ⌝ }
+    ensures { λ r. ⌜ Marks (now (pins .entry)) r 257 ⌝ }
+{
+    let mut known = [true; 257];
+    let mut v = 1;
+    while v < 257 {
+        known[v] = pins[v] != 0;
+        v += 1;
+    }
+    known
+}
+
+// Whether all entries, of at most 256 each, are marked.
+fn all_marked(layout: &[u16], known: &[bool; 257]) -> bool
+    requires { ⌜ over (now layout) ≡ false ⌝ }
+    ensures { λ r. ⌜ (r ≡ true → (p : ℕ) → p < length (now (layout .entry)) → getD (now (known .entry)) (getD (now (layout .entry)) p 0) false ≡ true) ⌝ }
+{
+    let mut all = true;
+    let mut i = 0;
+    while i < layout.len() {
+        all = all & known[layout[i] as usize];
+        i += 1;
+    }
+    all
+}
+
+// Whether all entries are 0 or nets by the table.
+fn all_known(layout: &[u16], pins: &[u16; 257]) -> bool
+    requires { ⌜ length (now pins) ≡ 257 ⌝ }
+    ensures { λ r. ⌜ (r ≡ true → AllKnown (now (pins .entry)) (now (layout .entry))) ⌝ }
+{
+    if has_over(layout) {
+        return false;
+    }
+    let known = known_numbers(pins);
+    all_marked(layout, &known)
+}
+
 // The lowest entry that is neither 0 nor a net, else the length.
 pub fn find_strange(top: &[u16], bottom: &[u16], layout: &[u16], pins: &[u16; 257]) -> usize
     requires { ⌜ Known (now top) (now bottom) (now pins) ⌝ }
     ensures { λ r. ⌜ r ≡ lowest (length (now (layout .entry))) (strange (now (top .entry)) (now (bottom .entry)) (now (layout .entry))) ⌝ }
 {
+    if all_known(layout, pins) {
+        return layout.len();
+    }
     find_unknown(layout, pins)
 }
 

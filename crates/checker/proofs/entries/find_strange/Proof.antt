@@ -1,22 +1,29 @@
 -- `checker::entries::find_strange` meets its contract: by the table of pins the unknown entries are the strange ones.
-use mathlib.Core.Path.{_∙_}
+use mathlib.Core.Path.{_∙_, sym}
 use borrow.Author.Needs.{needs}
-use Rattle.checker.proofs.Lowest.{lowest-same}
-use Rattle.checker.proofs.entries.Nets.{unknown-strange}
+use Rattle.checker.proofs.Lowest.{lowest-none}
+use Rattle.checker.proofs.entries.Nets.{lowest-strange}
 use Rattle.checker.proofs.entries.find_strange.Statement.{statement}
 use Rattle.checker.proofs.entries.find_strange.Tie as tie
+
+all-known-requires : tie.Need-all-known-requires
+all-known-requires c κs = search needs
+
+returns : tie.Need-returns
+returns c =
+    let start = c .before .before .before .before .before in
+    let a = start .args in
+    sym (lowest-none _ _ (c .before .all-known .ensures (c .if1 .taken)))
+    ∙ lowest-strange (a .top .now) (a .bottom .now) (a .pins .now) (a .layout .now) (start .pre)
 
 find-unknown-requires : tie.Need-find-unknown-requires
 find-unknown-requires c κs = search needs
 
-returns : tie.Need-returns
-returns c =
-    c .find-unknown .ensures
-    ∙ lowest-same _ _ _
-    (λ k l. unknown-strange
-    (c .before .before .before .before .args .top .now) (c .before .before .before .before .args .bottom .now)
-    (c .before .before .before .before .args .pins .now) (c .before .before .before .before .args .layout .now)
-    (c .before .before .before .before .pre) k)
+returns-2 : tie.Need-returns-2
+returns-2 c =
+    let start = c .before .before .before .before .before .before in
+    let a = start .args in
+    c .find-unknown .ensures ∙ lowest-strange (a .top .now) (a .bottom .now) (a .pins .now) (a .layout .now) (start .pre)
 
 pub find-strange-spec : {M : Type 1} → statement M
-find-strange-spec = tie.close (tie.spec find-unknown-requires returns)
+find-strange-spec = tie.close (tie.spec all-known-requires returns find-unknown-requires returns-2)
