@@ -58,7 +58,7 @@ fn has_over(layout: &[u16]) -> bool
     found
 }
 
-// Which numbers up to 256 are 0 or nets by the table.
+// Marks of the numbers up to 256: only 0 and nets by the table have one.
 fn known_numbers(pins: &[u16; 257]) -> [bool; 257]
     requires { ⌜ length (now pins) ≡ 257 ⌝ }
     ensures { λ r. ⌜ Marks (now (pins .entry)) r 257 ⌝ }
@@ -72,7 +72,7 @@ fn known_numbers(pins: &[u16; 257]) -> [bool; 257]
     known
 }
 
-// Whether all entries, of at most 256 each, are marked.
+// True only where all entries, of at most 256 each, are marked.
 fn all_marked(layout: &[u16], known: &[bool; 257]) -> bool
     requires { ⌜ over (now layout) ≡ false ⌝ }
     ensures { λ r. ⌜ (r ≡ true → (p : ℕ) → p < length (now (layout .entry)) → getD (now (known .entry)) (getD (now (layout .entry)) p 0) false ≡ true) ⌝ }
@@ -86,7 +86,7 @@ fn all_marked(layout: &[u16], known: &[bool; 257]) -> bool
     all
 }
 
-// Whether all entries are 0 or nets by the table.
+// True only where all entries are 0 or nets by the table.
 fn all_known(layout: &[u16], pins: &[u16; 257]) -> bool
     requires { ⌜ length (now pins) ≡ 257 ⌝ }
     ensures { λ r. ⌜ (r ≡ true → AllKnown (now (pins .entry)) (now (layout .entry))) ⌝ }
