@@ -1,6 +1,6 @@
 -- What the contracts of the piece counter cite: what its variables hold while it goes through the points of a column. They are a label for each track (the
--- strands), one for the edge below, and the count of each net.
-use Prim.Native.Nat.{ℕ, suc, _+_, _*_, _/_, _≤_, _<_}
+-- strands), one for the edge below, and of each net the pieces begun and the joins of two. Labels of no net are not kept up.
+use Prim.Native.Nat.{ℕ, suc, _+_, _*_, _-_, _/_, _≤_, _<_}
 use mathlib.Core.Path.{_≡_}
 use mathlib.Core.Logic.{_≢_}
 use mathlib.Core.Bool.{Bool, not, _&&_}
@@ -9,7 +9,7 @@ use lib.ListN.{length, getD}
 use lib.Dec.{eqb, ltb}
 use Rattle.grid.specs.Channel.{pick, bit}
 use Rattle.checker.specs.Pieces.Label.{sub}
-use Rattle.checker.specs.Pieces.Roots.{roots}
+use Rattle.checker.specs.Pieces.Roots.{tally, roots}
 use Rattle.checker.specs.Pieces.Scan.{prev, sweep, column, point₁, point₂, point}
 use Rattle.checker.specs.Pieces.Edges.{netOf}
 
@@ -33,6 +33,18 @@ pub record Column (D : List ℕ) (t b q : ℕ) : Type 0 where
   pub base : b ≡ x * (2 * t + 1)
   pub before : q ≡ prev (length D) t x
 
+-- at point j of the column at b nets only cross: the upper edge is of the lower one's net, the right edge of the left one's, and the nets differ
+pub record Crossing (D : List ℕ) (t b q j : ℕ) : Type 0 where
+  pub upright : netOf D (b + j) ≡ netOf D (b + j + 1)
+  pub level : netOf D (q + j) ≡ netOf D (b + t + 1 + j)
+  pub apart : netOf D (b + j) ≢ netOf D (q + j)
+
+-- so they do from point j up to point k
+pub record Crossings (D : List ℕ) (t b q j k : ℕ) : Type 0 where
+  pub from : j ≤ k
+  pub to : k ≤ t
+  pub each : (i : ℕ) → j ≤ i → i < k → Crossing D t b q i
+
 -- the labels when the columns before b and the first j points of the column at b are passed
 unfoldable pub seen : (D : List ℕ) (t b q j : ℕ) → ℕ → ℕ
 seen D t b q j = column (netOf D) t b q j (sweep (netOf D) (length D) t (b / (2 * t + 1)))
@@ -52,57 +64,116 @@ seen₃ D t b q j = point (netOf D) t b q j (seen D t b q j)
 -- each track's label: of the right edge at the points passed, of the left edge at those to come
 pub record Labs (D : List ℕ) (t b q j : ℕ) (f : ℕ → ℕ) (lab : List ℕ) : Type 0 where
   pub long : length lab ≡ 512
-  pub done : (k : ℕ) → k < j → getD lab k 0 ≡ f (b + t + 1 + k)
+  pub done : (k : ℕ) → k < j → netOf D (b + t + 1 + k) ≢ 0 → getD lab k 0 ≡ f (b + t + 1 + k)
   pub todo : (k : ℕ) → j ≤ k → k < t → netOf D (q + k) ≢ 0 → getD lab k 0 ≡ f (q + k)
 
--- each net's count: its roots
-pub record Counted (D : List ℕ) (f : ℕ → ℕ) (count : List ℕ) : Type 0 where
-  pub long : length count ≡ 257
-  pub counts : (N : ℕ) → N ≤ 256 → getD count N 0 ≡ roots (netOf D) f (length D) N
+-- the labels before a point
+pub record Labels (D : List ℕ) (t b q j vl : ℕ) (lab : List ℕ) : Type 0 where
+  pub down : netOf D (b + j) ≢ 0 → vl ≡ seen D t b q j (b + j)
+  pub labs : Labs D t b q j (seen D t b q j) lab
+
+-- after its left edge
+pub record Labels₁ (D : List ℕ) (t b q j vl nl : ℕ) : Type 0 where
+  pub down : netOf D (b + j) ≢ 0 → vl ≡ seen₁ D t b q j (b + j)
+  pub left : netOf D (q + j) ≢ 0 → nl ≡ seen₁ D t b q j (q + j)
+
+-- after its upper edge
+pub record Labels₂ (D : List ℕ) (t b q j vl nl ul : ℕ) : Type 0 where
+  pub down : netOf D (b + j) ≢ 0 → vl ≡ seen₂ D t b q j (b + j)
+  pub left : netOf D (q + j) ≢ 0 → nl ≡ seen₂ D t b q j (q + j)
+  pub up : netOf D (b + j + 1) ≢ 0 → ul ≡ seen₂ D t b q j (b + j + 1)
+
+-- after its right edge
+pub record Labels₃ (D : List ℕ) (t b q j ul rl : ℕ) : Type 0 where
+  pub up : netOf D (b + j + 1) ≢ 0 → ul ≡ seen₃ D t b q j (b + j + 1)
+  pub right : netOf D (b + t + 1 + j) ≢ 0 → rl ≡ seen₃ D t b q j (b + t + 1 + j)
 
 -- one label for another in the first t
 pub record Merged (old new t : ℕ) (lab lab′ : List ℕ) : Type 0 where
   pub long : length lab′ ≡ length lab
   pub at : (k : ℕ) → k < t → getD lab′ k 0 ≡ sub old new (getD lab k 0)
 
--- what a change of label a to b takes from N's count, a of an edge of net M
+-- a number for each net, at most m
+pub record Table (m : ℕ) (a : List ℕ) : Type 0 where
+  pub long : length a ≡ 257
+  pub most : (N : ℕ) → N ≤ 256 → getD a N 0 ≤ m
+
+-- after a step: none grows by more than 1
+pub record Grown (a a′ : List ℕ) : Type 0 where
+  pub long : length a′ ≡ length a
+  pub most : (N : ℕ) → N ≤ 256 → getD a′ N 0 ≤ getD a N 0 + 1
+
+-- what a change of label a to b takes from N's roots, a of an edge of net M
 abbrev pub lost : (a b M N : ℕ) → ℕ
 lost a b M N = pick (eqb a b) 0 (bit (eqb M N))
 
--- one fewer of net M if the labels differ
-pub record Lost (a b M : ℕ) (count count′ : List ℕ) : Type 0 where
-  pub long : length count′ ≡ length count
-  pub counts : (N : ℕ) → N ≤ 256 → getD count′ N 0 + lost a b M N ≡ getD count N 0
+-- one join more of net M if the labels differ
+pub record Joined (a b M : ℕ) (joined joined′ : List ℕ) : Type 0 where
+  pub grown : Grown joined joined′
+  pub counts : (N : ℕ) → N ≤ 256 → getD joined′ N 0 ≡ getD joined N 0 + lost a b M N
+
+-- one piece more of net M begun if the labels are the same
+pub record Begun (a b M : ℕ) (begun begun′ : List ℕ) : Type 0 where
+  pub grown : Grown begun begun′
+  pub counts : (N : ℕ) → N ≢ 0 → N ≤ 256 → getD begun′ N 0 + lost a b M N ≡ getD begun N 0 + bit (eqb M N)
+
+-- from the labels f to f′: the roots that go are joins
+pub record Joins (D : List ℕ) (f f′ : ℕ → ℕ) (joined joined′ : List ℕ) : Type 0 where
+  pub grown : Grown joined joined′
+  pub counts : (N : ℕ) → N ≤ 256 → roots (netOf D) f (length D) N + getD joined N 0 ≡ roots (netOf D) f′ (length D) N + getD joined′ N 0
+
+-- from f to f′ by the edge p: it stays a root and begins a piece, or it goes
+pub record Begins (D : List ℕ) (f f′ : ℕ → ℕ) (p : ℕ) (begun begun′ : List ℕ) : Type 0 where
+  pub grown : Grown begun begun′
+  pub counts :
+      (N : ℕ) → N ≢ 0 → N ≤ 256
+      → roots (netOf D) f (length D) N + getD begun′ N 0 ≡ roots (netOf D) f′ (length D) N + getD begun N 0 + bit (eqb (netOf D p) N)
+
+-- the joins after the left edge of a point
+abbrev pub JoinsLeft : (D : List ℕ) (t b q j : ℕ) (joined joined′ : List ℕ) → Type 0
+JoinsLeft D t b q j = Joins D (seen D t b q j) (seen₁ D t b q j)
+
+-- the pieces begun after its upper edge
+abbrev pub BeginsUp : (D : List ℕ) (t b q j : ℕ) (begun begun′ : List ℕ) → Type 0
+BeginsUp D t b q j = Begins D (seen₁ D t b q j) (seen₂ D t b q j) (b + j + 1)
+
+-- and after its right edge
+abbrev pub BeginsRight : (D : List ℕ) (t b q j : ℕ) (begun begun′ : List ℕ) → Type 0
+BeginsRight D t b q j = Begins D (seen₂ D t b q j) (seen₃ D t b q j) (b + t + 1 + j)
+
+-- how many entries below position p are of net N
+unfoldable pub upTo : (D : List ℕ) (p N : ℕ) → ℕ
+upTo D p N = tally p (λ k. eqb (netOf D k) N)
+
+-- how many edges of net N are met before point j of the column at b: of that column the vertical ones up to j and the horizontal ones before j
+unfoldable pub met : (D : List ℕ) (t b j N : ℕ) → ℕ
+met D t b j N = upTo D (b + j + 1) N + (upTo D (b + t + 1 + j) N - upTo D (b + t + 1) N)
+
+-- the tables of the pieces begun and of the joins, when `reached` of each net's edges are met and the others are roots; each number is at most m
+pub record Counted (D : List ℕ) (f reached : ℕ → ℕ) (m : ℕ) (begun joined : List ℕ) : Type 0 where
+  pub fits : Table m begun
+  pub fits′ : Table m joined
+  pub counts :
+      (N : ℕ) → N ≢ 0 → N ≤ 256
+      → getD begun N 0 + upTo D (length D) N ≡ roots (netOf D) f (length D) N + getD joined N 0 + reached N
+
+-- when the entries below p are met
+abbrev pub CountedTo : (D : List ℕ) (f : ℕ → ℕ) (p : ℕ) (begun joined : List ℕ) → Type 0
+CountedTo D f p = Counted D f (upTo D p) p
+
+-- and when all w columns are passed
+abbrev pub CountedAll : (D : List ℕ) (w t : ℕ) (begun joined : List ℕ) → Type 0
+CountedAll D w t = CountedTo D (sweep (netOf D) (length D) t w) (length D)
 
 -- before a point
-pub record State (D : List ℕ) (t b q j vl : ℕ) (lab count : List ℕ) : Type 0 where
-  pub down : vl ≡ seen D t b q j (b + j)
-  pub labs : Labs D t b q j (seen D t b q j) lab
-  pub counted : Counted D (seen D t b q j) count
-
--- after its left edge
-pub record State₁ (D : List ℕ) (t b q j vl nl : ℕ) (count : List ℕ) : Type 0 where
-  pub down : vl ≡ seen₁ D t b q j (b + j)
-  pub left : netOf D (q + j) ≢ 0 → nl ≡ seen₁ D t b q j (q + j)
-  pub counted : Counted D (seen₁ D t b q j) count
-
--- after its upper edge
-pub record State₂ (D : List ℕ) (t b q j vl nl ul : ℕ) (count : List ℕ) : Type 0 where
-  pub down : vl ≡ seen₂ D t b q j (b + j)
-  pub left : netOf D (q + j) ≢ 0 → nl ≡ seen₂ D t b q j (q + j)
-  pub up : ul ≡ seen₂ D t b q j (b + j + 1)
-  pub counted : Counted D (seen₂ D t b q j) count
-
--- after its right edge
-pub record State₃ (D : List ℕ) (t b q j ul rl : ℕ) (count : List ℕ) : Type 0 where
-  pub up : ul ≡ seen₃ D t b q j (b + j + 1)
-  pub right : rl ≡ seen₃ D t b q j (b + t + 1 + j)
-  pub counted : Counted D (seen₃ D t b q j) count
+pub record State (D : List ℕ) (t b q j vl : ℕ) (lab begun joined : List ℕ) : Type 0 where
+  pub labels : Labels D t b q j vl lab
+  pub counted : Counted D (seen D t b q j) (met D t b j) (b + 2 * j + 1) begun joined
 
 -- the label l of an edge of net n, if that is the net, else o
 unfoldable pub chosen : (net n l o : ℕ) → ℕ
 chosen net n l o = pick (eqb net 0) o (pick (eqb net n) l o)
 
--- a net with more than one piece by the counts
-unfoldable pub many : (count : List ℕ) (N : ℕ) → Bool
-many count N = not (eqb N 0) && ltb 1 (getD count N 0)
+-- a net with more than one piece: more pieces begun than one and the joins
+unfoldable pub many : (begun joined : List ℕ) (N : ℕ) → Bool
+many begun joined N = not (eqb N 0) && ltb (1 + getD joined N 0) (getD begun N 0)

@@ -1,12 +1,11 @@
-// The pieces of each net: each strand has a label, and where two labels of a net meet one takes the place of the other.
+// The pieces of each net: each strand has a label, and where two labels of a net meet one takes the place of the other. A net has as many pieces as
+// begin, less the joins of two.
 ghost use mathlib.Core.Path.{_≡_};
-ghost use Prim.Native.Nat.{ℕ, _+_, _*_, _-_, _≤_, _<_};
-ghost use lib.ListN.{length, getD};
+ghost use Prim.Native.Nat.{_+_, _*_, _≤_, _<_};
+ghost use lib.ListN.{length};
 ghost use Rattle.checker.specs.Check.{lowest, split};
-ghost use Rattle.checker.specs.Pieces.Scan.{sweep};
-ghost use Rattle.checker.specs.Pieces.Edges.{netOf};
-ghost use Rattle.checker.specs.Strands.{lost, chosen, many, Drawn, Entry, Column, seen, seen₁, Labs, Counted, Merged, Lost};
-ghost use Rattle.checker.specs.Strands.{State, State₁, State₂, State₃};
+ghost use Rattle.checker.specs.Strands.{chosen, many, Drawn, Entry, Column, seen, seen₁, Labs, Labels, Labels₁, Labels₂, Labels₃, Merged};
+ghost use Rattle.checker.specs.Strands.{Table, Joined, Begun, JoinsLeft, BeginsUp, BeginsRight, CountedTo, CountedAll, State, Crossings};
 use crate::entries::entry;
 
 // The label `l` of an edge of net `n` if that is the net, else `o`.
@@ -40,18 +39,29 @@ fn merge(lab: &mut [u32; 512], t: usize, old: u32, new: u32)
     }
 }
 
-// One piece of the net fewer if the labels differ.
-fn lose(count: &mut [u32; 257], net: u16, a: u32, b: u32)
+// One more piece begun, of the net, if the labels are the same: the edge keeps its own.
+fn begin(begun: &mut [u32; 257], net: u16, a: u32, b: u32)
     requires { ⌜ net ≤ 256 ⌝ }
-    requires { ⌜ length (now count) ≡ 257 ⌝ }
-    requires { ⌜ lost a b net net ≤ getD (now count) net 0 ⌝ }
-    ensures { λ _. ⌜ Lost a b net (now (count .entry)) (now (count .exit)) ⌝ }
+    requires { ⌜ Table 1000000 (now begun) ⌝ }
+    ensures { λ _. ⌜ Begun a b net (now (begun .entry)) (now (begun .exit)) ⌝ }
+{
+    if a == b {
+        let k = net as usize;
+        begun[k] = begun[k] + 1;
+    }
+}
+
+// One more join, of the net, if the labels differ.
+fn join(joined: &mut [u32; 257], net: u16, a: u32, b: u32)
+    requires { ⌜ net ≤ 256 ⌝ }
+    requires { ⌜ Table 1000000 (now joined) ⌝ }
+    ensures { λ _. ⌜ Joined a b net (now (joined .entry)) (now (joined .exit)) ⌝ }
 {
     if a == b {
         return;
     }
     let k = net as usize;
-    count[k] = count[k] - 1;
+    joined[k] = joined[k] + 1;
 }
 
 // The left edge, of net ln, joins the edge below it, of net vd.
@@ -65,20 +75,22 @@ fn left(
     vd: u16,
     ln: u16,
     lab: &mut [u32; 512],
-    count: &mut [u32; 257],
+    joined: &mut [u32; 257],
 ) -> u32
     requires { ⌜ Column (now layout) t b q ⌝ }
     requires { ⌜ j < t ⌝ }
     requires { ⌜ Entry (now layout) (b + j) vd ⌝ }
     requires { ⌜ Entry (now layout) (q + j) ln ⌝ }
-    requires { ⌜ State (now layout) t b q j vl (now lab) (now count) ⌝ }
-    ensures { λ r. ⌜ State₁ (now (layout .entry)) t b q j vl r (now (count .exit)) ⌝ }
+    requires { ⌜ Labels (now layout) t b q j vl (now lab) ⌝ }
+    requires { ⌜ Table 1000000 (now joined) ⌝ }
+    ensures { λ r. ⌜ Labels₁ (now (layout .entry)) t b q j vl r ⌝ }
     ensures { λ r. ⌜ Labs (now (layout .entry)) t b q j (seen₁ (now (layout .entry)) t b q j) (now (lab .exit)) ⌝ }
+    ensures { λ r. ⌜ JoinsLeft (now (layout .entry)) t b q j (now (joined .entry)) (now (joined .exit)) ⌝ }
 {
     let ll = lab[j];
     let nl = choose(ln, vd, vl, ll);
     merge(lab, t, ll, nl);
-    lose(count, ln, ll, nl);
+    join(joined, ln, ll, nl);
     nl
 }
 
@@ -94,20 +106,22 @@ fn up(
     vd: u16,
     ln: u16,
     vu: u16,
-    count: &mut [u32; 257],
+    begun: &mut [u32; 257],
 ) -> u32
     requires { ⌜ Column (now layout) t b q ⌝ }
     requires { ⌜ j < t ⌝ }
     requires { ⌜ Entry (now layout) (b + j) vd ⌝ }
     requires { ⌜ Entry (now layout) (q + j) ln ⌝ }
     requires { ⌜ Entry (now layout) (b + j + 1) vu ⌝ }
-    requires { ⌜ State₁ (now layout) t b q j vl nl (now count) ⌝ }
-    ensures { λ r. ⌜ State₂ (now (layout .entry)) t b q j vl nl r (now (count .exit)) ⌝ }
+    requires { ⌜ Labels₁ (now layout) t b q j vl nl ⌝ }
+    requires { ⌜ Table 1000000 (now begun) ⌝ }
+    ensures { λ r. ⌜ Labels₂ (now (layout .entry)) t b q j vl nl r ⌝ }
+    ensures { λ r. ⌜ BeginsUp (now (layout .entry)) t b q j (now (begun .entry)) (now (begun .exit)) ⌝ }
 {
     let u = (b + j + 1) as u32;
     let o = choose(vu, vd, vl, u);
     let ul = choose(vu, ln, nl, o);
-    lose(count, vu, u, ul);
+    begin(begun, vu, u, ul);
     ul
 }
 
@@ -125,7 +139,7 @@ fn right(
     ln: u16,
     vu: u16,
     rn: u16,
-    count: &mut [u32; 257],
+    begun: &mut [u32; 257],
 ) -> u32
     requires { ⌜ Column (now layout) t b q ⌝ }
     requires { ⌜ j < t ⌝ }
@@ -133,15 +147,49 @@ fn right(
     requires { ⌜ Entry (now layout) (q + j) ln ⌝ }
     requires { ⌜ Entry (now layout) (b + j + 1) vu ⌝ }
     requires { ⌜ Entry (now layout) (b + t + 1 + j) rn ⌝ }
-    requires { ⌜ State₂ (now layout) t b q j vl nl ul (now count) ⌝ }
-    ensures { λ r. ⌜ State₃ (now (layout .entry)) t b q j ul r (now (count .exit)) ⌝ }
+    requires { ⌜ Labels₂ (now layout) t b q j vl nl ul ⌝ }
+    requires { ⌜ Table 1000000 (now begun) ⌝ }
+    ensures { λ r. ⌜ Labels₃ (now (layout .entry)) t b q j ul r ⌝ }
+    ensures { λ r. ⌜ BeginsRight (now (layout .entry)) t b q j (now (begun .entry)) (now (begun .exit)) ⌝ }
 {
     let r = (b + t + 1 + j) as u32;
     let o = choose(rn, vd, vl, r);
     let p = choose(rn, ln, nl, o);
     let rl = choose(rn, vu, ul, p);
-    lose(count, rn, r, rl);
+    begin(begun, rn, r, rl);
     rl
+}
+
+// The edges of a grid point: the left, the upper and the right one, one after the other.
+fn meet(
+    layout: &[u16],
+    t: usize,
+    b: usize,
+    q: usize,
+    j: usize,
+    vl: u32,
+    vd: u16,
+    ln: u16,
+    vu: u16,
+    rn: u16,
+    lab: &mut [u32; 512],
+    begun: &mut [u32; 257],
+    joined: &mut [u32; 257],
+) -> u32
+    requires { ⌜ Column (now layout) t b q ⌝ }
+    requires { ⌜ j < t ⌝ }
+    requires { ⌜ Entry (now layout) (b + j) vd ⌝ }
+    requires { ⌜ Entry (now layout) (q + j) ln ⌝ }
+    requires { ⌜ Entry (now layout) (b + j + 1) vu ⌝ }
+    requires { ⌜ Entry (now layout) (b + t + 1 + j) rn ⌝ }
+    requires { ⌜ State (now layout) t b q j vl (now lab) (now begun) (now joined) ⌝ }
+    ensures { λ r. ⌜ State (now (layout .entry)) t b q (j + 1) r (now (lab .exit)) (now (begun .exit)) (now (joined .exit)) ⌝ }
+{
+    let nl = left(layout, t, b, q, j, vl, vd, ln, lab, joined);
+    let ul = up(layout, t, b, q, j, vl, nl, vd, ln, vu, begun);
+    let rl = right(layout, t, b, q, j, vl, nl, ul, vd, ln, vu, rn, begun);
+    lab[j] = rl;
+    ul
 }
 
 // One grid point.
@@ -153,77 +201,89 @@ fn point(
     j: usize,
     vl: u32,
     lab: &mut [u32; 512],
-    count: &mut [u32; 257],
+    begun: &mut [u32; 257],
+    joined: &mut [u32; 257],
 ) -> u32
     requires { ⌜ Column (now layout) t b q ⌝ }
     requires { ⌜ j < t ⌝ }
-    requires { ⌜ State (now layout) t b q j vl (now lab) (now count) ⌝ }
-    ensures { λ r. ⌜ State (now (layout .entry)) t b q (j + 1) r (now (lab .exit)) (now (count .exit)) ⌝ }
+    requires { ⌜ State (now layout) t b q j vl (now lab) (now begun) (now joined) ⌝ }
+    ensures { λ r. ⌜ State (now (layout .entry)) t b q (j + 1) r (now (lab .exit)) (now (begun .exit)) (now (joined .exit)) ⌝ }
 {
     let vd = layout[b + j];
     let ln = entry(layout, q + j);
     let vu = layout[b + j + 1];
     let rn = layout[b + t + 1 + j];
-    let nl = left(layout, t, b, q, j, vl, vd, ln, lab, count);
-    let ul = up(layout, t, b, q, j, vl, nl, vd, ln, vu, count);
-    let rl = right(layout, t, b, q, j, vl, nl, ul, vd, ln, vu, rn, count);
-    lab[j] = rl;
-    ul
+    meet(layout, t, b, q, j, vl, vd, ln, vu, rn, lab, begun, joined)
 }
 
-// One column.
+// The first point from j on where nets may do more than cross, t where there is none: nothing changes where they only cross.
+fn next_meeting(layout: &[u16], t: usize, b: usize, q: usize, j: usize) -> usize
+    requires { ⌜ Column (now layout) t b q ⌝ }
+    requires { ⌜ j < t ⌝ }
+    ensures { λ r. ⌜ Crossings (now (layout .entry)) t b q j r ⌝ }
+{
+    if layout.len() <= q {
+        return j;
+    }
+    let vd = layout[b + j];
+    let mut k = j;
+    while k < t {
+        if layout[b + k + 1] != vd {
+            return k;
+        }
+        let ln = layout[q + k];
+        if ln == vd {
+            return k;
+        }
+        if layout[b + t + 1 + k] != ln {
+            return k;
+        }
+        k += 1;
+    }
+    t
+}
+
+// One column. Its lowest edge begins a piece.
 fn column(
     layout: &[u16],
     t: usize,
     b: usize,
     q: usize,
     lab: &mut [u32; 512],
-    count: &mut [u32; 257],
+    begun: &mut [u32; 257],
+    joined: &mut [u32; 257],
 )
     requires { ⌜ Column (now layout) t b q ⌝ }
     requires { ⌜ Labs (now layout) t b q 0 (seen (now layout) t b q 0) (now lab) ⌝ }
-    requires { ⌜ Counted (now layout) (seen (now layout) t b q 0) (now count) ⌝ }
+    requires { ⌜ CountedTo (now layout) (seen (now layout) t b q 0) b (now begun) (now joined) ⌝ }
     ensures { λ _. ⌜ Labs (now (layout .entry)) t b q t (seen (now (layout .entry)) t b q t) (now (lab .exit)) ⌝ }
-    ensures { λ _. ⌜ Counted (now (layout .entry)) (seen (now (layout .entry)) t b q t) (now (count .exit)) ⌝ }
+    ensures { λ _. ⌜ CountedTo (now (layout .entry)) (seen (now (layout .entry)) t b q t) (b + 2 * t + 1) (now (begun .exit)) (now (joined .exit)) ⌝ }
 {
     let mut vl = b as u32;
+    begin(begun, layout[b], vl, vl);
     let mut j = 0;
     while j < t {
-        vl = point(layout, t, b, q, j, vl, lab, count);
-        j += 1;
+        j = next_meeting(layout, t, b, q, j);
+        if j < t {
+            vl = point(layout, t, b, q, j, vl, lab, begun, joined);
+            j += 1;
+        }
     }
 }
 
-// How often each number stands in the layout.
-fn tally(layout: &[u16], count: &mut [u32; 257])
-    requires { ⌜ ((i : ℕ) → getD (now layout) i 0 ≤ 256) ⌝ }
-    requires { ⌜ length (now layout) ≤ 1000000 ⌝ }
-    requires { ⌜ length (now count) ≡ 257 ⌝ }
-    requires { ⌜ ((N : ℕ) → N ≤ 256 → getD (now count) N 0 ≡ 0) ⌝ }
-    ensures { λ _. ⌜ Counted (now (layout .entry)) (λ p. p) (now (count .exit)) ⌝ }
-{
-    let mut i = 0;
-    while i < layout.len() {
-        let k = layout[i] as usize;
-        count[k] = count[k] + 1;
-        i += 1;
-    }
-}
-
-// How many pieces each net has.
-fn count_pieces(layout: &[u16], w: usize, t: usize, count: &mut [u32; 257])
+// How many pieces of each net begin, and how many joins it has.
+fn count_pieces(layout: &[u16], w: usize, t: usize, begun: &mut [u32; 257], joined: &mut [u32; 257])
     requires { ⌜ Drawn (now layout) w t ⌝ }
-    requires { ⌜ length (now count) ≡ 257 ⌝ }
-    requires { ⌜ ((N : ℕ) → N ≤ 256 → getD (now count) N 0 ≡ 0) ⌝ }
-    ensures { λ _. ⌜ Counted (now (layout .entry)) (sweep (netOf (now (layout .entry))) (length (now (layout .entry))) t w) (now (count .exit)) ⌝ }
+    requires { ⌜ Table 0 (now begun) ⌝ }
+    requires { ⌜ Table 0 (now joined) ⌝ }
+    ensures { λ _. ⌜ CountedAll (now (layout .entry)) w t (now (begun .exit)) (now (joined .exit)) ⌝ }
 {
-    tally(layout, count);
     let mut lab: [u32; 512] = [0; 512];
     let mut b = 0;
     let mut q = layout.len();
     let mut x = 0;
     while x < w {
-        column(layout, t, b, q, &mut lab, count);
+        column(layout, t, b, q, &mut lab, begun, joined);
         q = b + t + 1;
         b = b + 2 * t + 1;
         x += 1;
@@ -231,12 +291,13 @@ fn count_pieces(layout: &[u16], w: usize, t: usize, count: &mut [u32; 257])
 }
 
 // The lowest net with more than one piece, else 257.
-fn find_many(count: &[u32; 257]) -> usize
-    ensures { λ r. ⌜ r ≡ lowest 257 (many (now (count .entry))) ⌝ }
+fn find_many(begun: &[u32; 257], joined: &[u32; 257]) -> usize
+    requires { ⌜ Table 1000000 (now joined) ⌝ }
+    ensures { λ r. ⌜ r ≡ lowest 257 (many (now (begun .entry)) (now (joined .entry))) ⌝ }
 {
     let mut n = 1;
     while n < 257 {
-        if 1 < count[n] {
+        if 1 + joined[n] < begun[n] {
             return n;
         }
         n += 1;
@@ -249,7 +310,8 @@ pub fn find_split(layout: &[u16], w: usize, t: usize) -> usize
     requires { ⌜ Drawn (now layout) w t ⌝ }
     ensures { λ r. ⌜ r ≡ lowest 257 (split t (now (layout .entry))) ⌝ }
 {
-    let mut count: [u32; 257] = [0; 257];
-    count_pieces(layout, w, t, &mut count);
-    find_many(&count)
+    let mut begun: [u32; 257] = [0; 257];
+    let mut joined: [u32; 257] = [0; 257];
+    count_pieces(layout, w, t, &mut begun, &mut joined);
+    find_many(&begun, &joined)
 }

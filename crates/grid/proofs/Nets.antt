@@ -64,6 +64,18 @@ module _ (top bottom : List ℕ) (v : ℕ) where
       go true i = omega arith
       go false i = omega arith
 
+  -- the first is not after the last
+  pub first-last : (k : ℕ) → firstTo top bottom v k ≤ lastTo top bottom v k
+  unfolding firstTo lastTo
+  first-last zero = omega arith
+  first-last (suc k) = go (pinAt top bottom v k) (eqb (firstTo top bottom v k) 0) (first-le k) (first-last k)
+    where
+      go : (q z : Bool) → firstTo top bottom v k ≤ k → firstTo top bottom v k ≤ lastTo top bottom v k
+          → pick (q && z) (suc k) (firstTo top bottom v k) ≤ pick q (suc k) (lastTo top bottom v k)
+      go true true i j = omega arith
+      go true false i j = omega arith
+      go false z i j = j
+
   -- the first column has a pin of the net
   pub first-pinned : (c k : ℕ) → firstTo top bottom v k ≡ suc c → pinAt top bottom v c ≡ true
   unfolding firstTo

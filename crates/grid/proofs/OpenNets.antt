@@ -11,11 +11,11 @@ use lib.Dec.{T, eqb, ltb, leb}
 use lib.ListN.{length, getD}
 use Rattle.grid.specs.Channel.{pick, bit, sum, count, left, right, isOpen, openAt, largest}
 use Rattle.grid.specs.Nets.{pinAt, firstColumn, lastColumn, table}
-use Rattle.grid.specs.Working.{Rows, opens, closes, openedBy, closedBy}
-use Rattle.grid.proofs.Tests.{eq-eqb, ne-eqb, lt-ltb, le-ltb, le-leb, lt-leb, bit-le, and-none}
+use Rattle.grid.specs.Working.{Rows, netsOn}
+use Rattle.grid.proofs.Tests.{eq-eqb, ne-eqb, lt-ltb, le-ltb, le-leb, lt-leb, bit-le}
 use Rattle.grid.proofs.Counting.{sum-plus, sum-zero}
 use Rattle.grid.proofs.Rows.{before}
-use Rattle.grid.proofs.Nets.{open-columns, first-pinned, last-pinned, no-last}
+use Rattle.grid.proofs.Nets.{open-columns, first-last, first-pinned, last-pinned, no-last}
 use Rattle.grid.proofs.Sums.{sum-same, sum-both, count-le}
 use Rattle.grid.proofs.Scanning.{none-over}
 use Rattle.grid.proofs.Tables.{table-at, table-none}
@@ -26,73 +26,36 @@ use Rattle.grid.proofs.Tables.{table-at, table-none}
 abbrev spans : ℕ → ℕ → ℕ → Bool
 spans f l c = (not (eqb f 0) && leb f c) && ltb c l
 
--- a column opens a net once at most
-pub opens-le : (f l c : ℕ) → opens f l c ≤ 1
-opens-le f l c = bit-le (eqb f c && ltb c l) 1 (λ e. omega arith)
+-- its last column lies after gap c just if it lies after column c + 1 or is that column
+ends-turn : (l c : ℕ) → bit (ltb (suc c) l) + bit (eqb l (suc c)) ≡ bit (ltb c l)
+ends-turn l c = go (decLt l (suc c)) (ℕ-discrete l (suc c))
+  where
+    go : Dec (l < suc c) → Dec (l ≡ suc c) → bit (ltb (suc c) l) + bit (eqb l (suc c)) ≡ bit (ltb c l)
+    go (yes a) e = simp (ne-eqb l (suc c) (omega arith), le-ltb (suc c) l (omega arith), le-ltb c l (omega arith))
+    go (no a) (yes e) = simp (eq-eqb l (suc c) e, le-ltb (suc c) l (omega arith), lt-ltb c l (omega arith))
+    go (no a) (no e) = simp (ne-eqb l (suc c) e, lt-ltb (suc c) l (omega arith), lt-ltb c l (omega arith))
 
--- and closes it once at most
-pub closes-le : (f l c : ℕ) → closes f l c ≤ 1
-closes-le f l c = bit-le (eqb l c && ltb f c) 1 (λ e. omega arith)
+-- what column c + 1 changes: a net that starts and ends there was not open and is not
+turn : (f l c : ℕ) → (f ≡ 0 → l ≡ 0) → f ≤ l → bit (spans f l (suc c)) + bit (eqb l (suc c)) ≡ bit (spans f l c) + bit (eqb f (suc c))
+turn f l c z h = go (ℕ-discrete f 0) (decLt f (suc c)) (ℕ-discrete f (suc c))
+  where
+    go : Dec (f ≡ 0) → Dec (f < suc c) → Dec (f ≡ suc c) → bit (spans f l (suc c)) + bit (eqb l (suc c)) ≡ bit (spans f l c) + bit (eqb f (suc c))
+    -- there is no such net
+    go (yes e) a q = let w = z e in simp (eq-eqb f 0 e, ne-eqb f (suc c) (omega arith), ne-eqb l (suc c) (omega arith))
+    -- it began before
+    go (no n) (yes a) q = simp (ne-eqb f 0 n, le-leb f c (omega arith), le-leb f (suc c) (omega arith), ne-eqb f (suc c) (omega arith)) (omega (arith, ends-turn l c))
+    -- it begins here
+    go (no n) (no a) (yes q) = simp (ne-eqb f 0 n, lt-leb f c (omega arith), le-leb f (suc c) (omega arith), eq-eqb f (suc c) q) (ends-turn l c ∙ ap bit (lt-ltb c l (omega arith)))
+    -- it begins later
+    go (no n) (no a) (no q) = simp (ne-eqb f 0 n, lt-leb f c (omega arith), lt-leb f (suc c) (omega arith), ne-eqb f (suc c) q, ne-eqb l (suc c) (omega arith))
 
--- it opens two at most
-pub opened-le : (first last : List ℕ) (c p q : ℕ) → openedBy first last c p q ≤ 2
-opened-le first last c p q = go (eqb p q) (opens-le (getD first p 0) (getD last p 0) c) (opens-le (getD first q 0) (getD last q 0) c)
+-- of two nets, two at most have a column
+pub on-le : (columns : List ℕ) (c p q : ℕ) → netsOn columns c p q ≤ 2
+on-le columns c p q = go (eqb p q) (bit-le (eqb (getD columns p 0) c) 1 (λ e. omega arith)) (bit-le (eqb (getD columns q 0) c) 1 (λ e. omega arith))
   where
     go : {x y : ℕ} (e : Bool) → x ≤ 1 → y ≤ 1 → x + pick e 0 y ≤ 2
     go true a b = omega arith
     go false a b = omega arith
-
--- what column c + 1 changes
-turn : (f l c : ℕ) → (f ≡ 0 → l ≡ 0) → bit (spans f l (suc c)) + closes f l (suc c) ≡ bit (spans f l c) + opens f l (suc c)
-turn f l c z = go (decLt f (suc c)) (ℕ-discrete f (suc c)) (ℕ-discrete f 0)
-  where
-    -- it began before
-    begun : f < suc c → f ≢ 0 → Dec (l < suc c) → Dec (l ≡ suc c) → bit (spans f l (suc c)) + closes f l (suc c) ≡ bit (spans f l c) + opens f l (suc c)
-    begun a b (yes p) q =
-        simp (
-          ne-eqb f 0 b,
-          lt-ltb f (suc c) a,
-          le-leb f c (omega arith),
-          le-leb f (suc c) (omega arith),
-          ne-eqb f (suc c) (omega arith),
-          ne-eqb l (suc c) (omega arith),
-          le-ltb (suc c) l (omega arith),
-          le-ltb c l (omega arith),
-        )
-    begun a b (no p) (yes q) =
-        simp (
-          ne-eqb f 0 b,
-          lt-ltb f (suc c) a,
-          le-leb f c (omega arith),
-          le-leb f (suc c) (omega arith),
-          ne-eqb f (suc c) (omega arith),
-          eq-eqb l (suc c) q,
-          le-ltb (suc c) l (omega arith),
-          lt-ltb c l (omega arith),
-        )
-    begun a b (no p) (no q) =
-        simp (
-          ne-eqb f 0 b,
-          lt-ltb f (suc c) a,
-          le-leb f c (omega arith),
-          le-leb f (suc c) (omega arith),
-          ne-eqb f (suc c) (omega arith),
-          ne-eqb l (suc c) q,
-          lt-ltb (suc c) l (omega arith),
-          lt-ltb c l (omega arith),
-        )
-
-    go : Dec (f < suc c) → Dec (f ≡ suc c) → Dec (f ≡ 0) → bit (spans f l (suc c)) + closes f l (suc c) ≡ bit (spans f l c) + opens f l (suc c)
-    -- there is no such net
-    go (yes a) q (yes e) = let w = z e in simp (eq-eqb f 0 e, ne-eqb f (suc c) (omega arith), ne-eqb l (suc c) (omega arith))
-    go (yes a) q (no e) = begun a e (decLt l (suc c)) (ℕ-discrete l (suc c))
-    -- it begins here
-    go (no a) (yes q) e =
-        simp (ne-eqb f 0 (omega arith), le-ltb f (suc c) (omega arith), lt-leb f c (omega arith), le-leb f (suc c) (omega arith), eq-eqb f (suc c) q, and-none (eqb l (suc c)) false refl)
-        (omega arith)
-    -- it begins later
-    go (no a) (no q) e =
-        simp (ne-eqb f 0 (omega arith), le-ltb f (suc c) (omega arith), lt-leb f c (omega arith), lt-leb f (suc c) (omega arith), ne-eqb f (suc c) q, and-none (eqb l (suc c)) false refl)
 
 -- ALL NETS
 
@@ -124,64 +87,54 @@ module _ (top bottom first last : List ℕ) (rows : Rows top bottom) (ef : first
       let e : (eqb (getD top c 0) v || eqb (getD bottom c 0) v) ≡ false = ap₂ _||_ (ne-eqb (getD top c 0) v (λ y. a (sym y))) (ne-eqb (getD bottom c 0) v (λ y. b (sym y))) in
       ((λ y. subst T (sym (first-pinned top bottom v c (length top) y) ∙ e) tt), (λ y. subst T (sym (last-pinned top bottom v c (length top) y) ∙ e) tt))
 
-  -- what column c + 1 opens and closes, by the nets' tables
-  abbrev opened : ℕ → ℕ
-  opened v = opens (getD first v 0) (getD last v 0) (suc c)
+  -- whether net v has column c + 1 in a table
+  abbrev on : List ℕ → ℕ → ℕ
+  on columns v = bit (eqb (getD columns v 0) (suc c))
 
-  abbrev closed : ℕ → ℕ
-  closed v = closes (getD first v 0) (getD last v 0) (suc c)
+  -- what stands in a table of the nets
+  column-at : (f : ℕ → ℕ) (columns : List ℕ) → columns ≡ table f → (v : ℕ) → 1 ≤ v → v ≤ 256 → getD columns v 0 ≡ f v
+  column-at f columns e v a b = ap (λ (l : List ℕ). getD l v 0) e ∙ table-at f v a b
 
-  first-at : (v : ℕ) → 1 ≤ v → v ≤ 256 → getD first v 0 ≡ firstColumn top bottom v
-  first-at v a b = ap (λ (l : List ℕ). getD l v 0) ef ∙ table-at (firstColumn top bottom) v a b
+  -- all nets with column c + 1 in a table have a pin there
+  all-on : (f : ℕ → ℕ) (columns : List ℕ) → columns ≡ table f → ((v : ℕ) → v ≢ getD top c 0 → v ≢ getD bottom c 0 → f v ≢ suc c)
+      → sum (on columns) 256 ≡ netsOn columns (suc c) (getD top c 0) (getD bottom c 0)
+  all-on f columns e h =
+      sum-both (on columns) (getD top c 0) (getD bottom c 0) 256
+      (rw (ne-eqb (getD columns 0 0) (suc c) (λ y. let z = ap (λ (l : List ℕ). getD l 0 0) e ∙ table-none f in let u : ⊥ = omega arith in u)))
+      (none-over top c (rows .above)) (none-over bottom c (rows .below))
+      (λ v a b m n. rw (ne-eqb (getD columns v 0) (suc c) (λ y. h v m n (sym (column-at f columns e v a b) ∙ y))))
 
-  last-at : (v : ℕ) → 1 ≤ v → v ≤ 256 → getD last v 0 ≡ lastColumn top bottom v
-  last-at v a b = ap (λ (l : List ℕ). getD l v 0) el ∙ table-at (lastColumn top bottom) v a b
-
-  one-net : (v : ℕ) → 1 ≤ v → v ≤ 256 → bit (isOpen top bottom (suc c) v) + closed v ≡ bit (isOpen top bottom c v) + opened v
+  one-net : (v : ℕ) → 1 ≤ v → v ≤ 256 → bit (isOpen top bottom (suc c) v) + on last v ≡ bit (isOpen top bottom c v) + on first v
   unfolding firstColumn lastColumn
   one-net v a b =
       let n : v ≢ 0 = omega arith in
-      let F = firstColumn top bottom v in
-      let L = lastColumn top bottom v in
       let x = ap bit (open-columns top bottom v n (rows .same) (suc c)) in
       let y = ap bit (open-columns top bottom v n (rows .same) c) in
-      let t = turn F L c (no-last top bottom v n (length top)) in
-      let o : opened v ≡ opens F L (suc c) = ap₂ (λ (f l : ℕ). opens f l (suc c)) (first-at v a b) (last-at v a b) in
-      let d : closed v ≡ closes F L (suc c) = ap₂ (λ (f l : ℕ). closes f l (suc c)) (first-at v a b) (last-at v a b) in
+      let t = turn (firstColumn top bottom v) (lastColumn top bottom v) c (no-last top bottom v n (length top)) (first-last top bottom v (length top)) in
+      let o = ap (λ (z : ℕ). bit (eqb z (suc c))) (column-at (firstColumn top bottom) first ef v a b) in
+      let d = ap (λ (z : ℕ). bit (eqb z (suc c))) (column-at (lastColumn top bottom) last el v a b) in
       omega arith
 
-  all-opened : sum opened 256 ≡ openedBy first last (suc c) (getD top c 0) (getD bottom c 0)
-  all-opened =
-      sum-both opened (getD top c 0) (getD bottom c 0) 256
-      (rw (ne-eqb (getD first 0 0) (suc c) (λ y. let z = ap (λ (l : List ℕ). getD l 0 0) ef ∙ table-none (firstColumn top bottom) in let u : ⊥ = omega arith in u)))
-      (none-over top c (rows .above)) (none-over bottom c (rows .below))
-      (λ v a b m n. rw (ne-eqb (getD first v 0) (suc c) (λ y. none-here v m n .0 (sym (first-at v a b) ∙ y))))
-
-  all-closed : sum closed 256 ≡ closedBy first last (suc c) (getD top c 0) (getD bottom c 0)
-  all-closed =
-      sum-both closed (getD top c 0) (getD bottom c 0) 256
-      (rw (ne-eqb (getD last 0 0) (suc c) (λ y. let z = ap (λ (l : List ℕ). getD l 0 0) el ∙ table-none (lastColumn top bottom) in let u : ⊥ = omega arith in u)))
-      (none-over top c (rows .above)) (none-over bottom c (rows .below))
-      (λ v a b m n. rw (ne-eqb (getD last v 0) (suc c) (λ y. none-here v m n .1 (sym (last-at v a b) ∙ y))))
-
-  -- the open nets right of column c + 1 and those that it closes are the open nets left of it and those that it opens
-  open-next : openAt top bottom (suc c) + closedBy first last (suc c) (getD top c 0) (getD bottom c 0)
-      ≡ openAt top bottom c + openedBy first last (suc c) (getD top c 0) (getD bottom c 0)
+  -- the open nets right of column c + 1 and those that end in it are the open nets left of it and those that start in it
+  open-next : openAt top bottom (suc c) + netsOn last (suc c) (getD top c 0) (getD bottom c 0)
+      ≡ openAt top bottom c + netsOn first (suc c) (getD top c 0) (getD bottom c 0)
   unfolding openAt count
   open-next =
-      ap (λ (z : ℕ). sum (λ v. bit (isOpen top bottom (suc c) v)) 256 + z) (sym all-closed)
-      ∙ sym (sum-plus (λ v. bit (isOpen top bottom (suc c) v)) closed 256)
-      ∙ sum-same (λ v. bit (isOpen top bottom (suc c) v) + closed v) (λ v. bit (isOpen top bottom c v) + opened v) 256 one-net
-      ∙ sum-plus (λ v. bit (isOpen top bottom c v)) opened 256
-      ∙ ap (λ (z : ℕ). sum (λ v. bit (isOpen top bottom c v)) 256 + z) all-opened
+      ap (λ (z : ℕ). sum (λ v. bit (isOpen top bottom (suc c) v)) 256 + z) (sym (all-on (lastColumn top bottom) last el (λ v m n. none-here v m n .1)))
+      ∙ sym (sum-plus (λ v. bit (isOpen top bottom (suc c) v)) (on last) 256)
+      ∙ sum-same (λ v. bit (isOpen top bottom (suc c) v) + on last v) (λ v. bit (isOpen top bottom c v) + on first v) 256 one-net
+      ∙ sum-plus (λ v. bit (isOpen top bottom c v)) (on first) 256
+      ∙ ap (λ (z : ℕ). sum (λ v. bit (isOpen top bottom c v)) 256 + z) (all-on (firstColumn top bottom) first ef (λ v m n. none-here v m n .0))
 
   -- the same over the code's variables
   pub open-turn : (p q n here : ℕ) → p ≡ getD top c 0 → q ≡ getD bottom c 0 → n ≡ c + 1 → here ≡ openAt top bottom c
-      → openAt top bottom (c + 1) + closedBy first last n p q ≡ here + openedBy first last n p q
+      → openAt top bottom (c + 1) + netsOn last n p q ≡ here + netsOn first n p q
   open-turn p q n here ep eq en e =
-      let x = ap₂ (λ (y z : ℕ). closedBy first last n y z) ep eq in
-      let y = ap (λ (m : ℕ). closedBy first last m (getD top c 0) (getD bottom c 0)) (en ∙ add-one c) in
-      let z = ap₂ (λ (y z : ℕ). openedBy first last n y z) ep eq in
-      let w = ap (λ (m : ℕ). openedBy first last m (getD top c 0) (getD bottom c 0)) (en ∙ add-one c) in
+      let x = same-on last in
+      let y = same-on first in
       let o = ap (openAt top bottom) (add-one c) in
       omega (arith, open-next)
+    where
+      same-on : (columns : List ℕ) → netsOn columns n p q ≡ netsOn columns (suc c) (getD top c 0) (getD bottom c 0)
+      same-on columns =
+          ap₂ (λ (y z : ℕ). netsOn columns n y z) ep eq ∙ ap (λ (m : ℕ). netsOn columns m (getD top c 0) (getD bottom c 0)) (en ∙ add-one c)

@@ -2,23 +2,17 @@
 use crate::spans::wide;
 ghost use mathlib.Core.Path.{_≡_};
 ghost use Prim.Native.Nat.{_+_, _-_, _≤_, _<_, max};
+ghost use lib.Dec.{eqb};
 ghost use lib.ListN.{length};
-ghost use Rattle.grid.specs.Channel.{density as densityOf};
+ghost use Rattle.grid.specs.Channel.{bit, density as densityOf};
 ghost use Rattle.grid.specs.Nets.{firstColumn, lastColumn, table};
-ghost use Rattle.grid.specs.Working.{Rows, opens, closes, ofBoth, openedBy, closedBy};
+ghost use Rattle.grid.specs.Working.{Rows, ofBoth, netsOn};
 
-// 1 for a net that opens in column c: it starts there and goes on.
-fn opening(f: u16, l: u16, c: u16) -> usize
-    ensures { λ r. ⌜ r ≡ opens f l c ⌝ }
+// 1 where a net's first or last column x is c.
+fn falls_on(x: u16, c: u16) -> usize
+    ensures { λ r. ⌜ r ≡ bit (eqb x c) ⌝ }
 {
-    if f == c { if c < l { 1 } else { 0 } } else { 0 }
-}
-
-// 1 for a net that closes in column c: it ends there and began before.
-fn closing(f: u16, l: u16, c: u16) -> usize
-    ensures { λ r. ⌜ r ≡ closes f l c ⌝ }
-{
-    if l == c { if f < c { 1 } else { 0 } } else { 0 }
+    if x == c { 1 } else { 0 }
 }
 
 // A figure x of the top pin's net and y of the bottom pin's, one net with both pins once.
@@ -35,18 +29,18 @@ fn larger(x: usize, y: usize) -> usize
     if x < y { y } else { x }
 }
 
-// The open nets right of column c, with pins of the nets p and q, where `here` are open left of it.
+// The open nets right of column c, with pins of the nets p and q, where `here` are open left of it. A net that starts and ends in c counts in both figures.
 fn after(here: usize, c: u16, p: usize, q: usize, first: &[u16], last: &[u16]) -> usize
     requires size { ⌜ (p < length (now first)) × (q < length (now first)) × (p < length (now last)) × (q < length (now last)) ⌝ }
-    requires count { ⌜ (here ≤ 256) × (closedBy (now first) (now last) c p q ≤ here + openedBy (now first) (now last) c p q) ⌝ }
-    ensures { λ r. ⌜ r ≡ here + openedBy (now (first .entry)) (now (last .entry)) c p q - closedBy (now (first .entry)) (now (last .entry)) c p q ⌝ }
+    requires count { ⌜ (here ≤ 256) × (netsOn (now last) c p q ≤ here + netsOn (now first) c p q) ⌝ }
+    ensures { λ r. ⌜ r ≡ here + netsOn (now (first .entry)) c p q - netsOn (now (last .entry)) c p q ⌝ }
 {
     let f = first[p];
     let l = last[p];
     let g = first[q];
     let m = last[q];
-    let started = of_both(p, q, opening(f, l, c), opening(g, m, c));
-    let ended = of_both(p, q, closing(f, l, c), closing(g, m, c));
+    let started = of_both(p, q, falls_on(f, c), falls_on(g, c));
+    let ended = of_both(p, q, falls_on(l, c), falls_on(m, c));
     here + started - ended
 }
 

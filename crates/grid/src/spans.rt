@@ -1,10 +1,10 @@
-// First column, last column and pin count of each net, in one pass over the rows.
+// First column, last column and pin count of each net, in two passes over the rows: one from the left and one from the right.
 ghost use mathlib.Core.Path.{_≡_};
-ghost use Prim.Native.Nat.{_+_, _≤_, _<_};
-ghost use lib.Dec.{eqb};
+ghost use Prim.Native.Nat.{_+_, _<_};
 ghost use lib.ListN.{length, getD, set};
-ghost use Rattle.grid.specs.Channel.{pick};
-ghost use Rattle.grid.specs.Working.{Rows, blank, noted, Filled};
+ghost use Rattle.grid.specs.Channel.{pins as pinsOf};
+ghost use Rattle.grid.specs.Nets.{firstColumn, lastColumn};
+ghost use Rattle.grid.specs.Working.{Rows, blank, Figures, Filled};
 
 pub fn wide(x: u16) -> usize
     ensures { λ r. ⌜ r ≡ x ⌝ }
@@ -12,24 +12,45 @@ pub fn wide(x: u16) -> usize
     x as usize
 }
 
-// The first column of a net with a pin in column c, where f is the one noted so far, 0 for none. By arithmetic: a branch on pins is a guess.
-fn earlier(f: u16, c: u16) -> u16
-    requires { ⌜ (f ≤ 256) × (c ≤ 256) ⌝ }
-    ensures { λ r. ⌜ r ≡ pick (eqb f 0) c f ⌝ }
-{
-    f + c * ((256 - f) / 256)
-}
-
 // Notes a pin of a net in column c.
-fn note(net: usize, c: u16, first: &mut [u16], last: &mut [u16], pins: &mut [u16])
-    requires { ⌜ (net < length (now first)) × (net < length (now last)) × (net < length (now pins)) × (getD (now pins) net 0 < 1024) × (getD (now first) net 0 ≤ 256) × (c ≤ 256) ⌝ }
-    ensures first { λ _. ⌜ now (first .exit) ≡ noted (now (first .entry)) net c ⌝ }
+fn note(net: usize, c: u16, last: &mut [u16], pins: &mut [u16])
+    requires { ⌜ (net < length (now last)) × (net < length (now pins)) × (getD (now pins) net 0 < 1024) ⌝ }
     ensures last { λ _. ⌜ now (last .exit) ≡ set (now (last .entry)) net c ⌝ }
     ensures pins { λ _. ⌜ now (pins .exit) ≡ set (now (pins .entry)) net (getD (now (pins .entry)) net 0 + 1) ⌝ }
 {
-    first[net] = earlier(first[net], c);
     last[net] = c;
     pins[net] = pins[net] + 1;
+}
+
+// Notes the last column and the pin count of each net, from the left.
+fn note_from_left(top: &[u16], bottom: &[u16], last: &mut [u16], pins: &mut [u16])
+    requires { ⌜ Rows (now top) (now bottom) × (now last ≡ blank) × (now pins ≡ blank) ⌝ }
+    ensures last { λ _. ⌜ Figures (lastColumn (now (top .entry)) (now (bottom .entry))) (now (last .exit)) ⌝ }
+    ensures pins { λ _. ⌜ Figures (pinsOf (now (top .entry)) (now (bottom .entry))) (now (pins .exit)) ⌝ }
+{
+    let mut i = 0;
+    let mut c = 1u16;
+    while i < top.len() {
+        note(wide(top[i]), c, last, pins);
+        note(wide(bottom[i]), c, last, pins);
+        i += 1;
+        c += 1;
+    }
+}
+
+// Notes the first column of each net, from the right: the pin stored last is the leftmost.
+fn note_from_right(top: &[u16], bottom: &[u16], first: &mut [u16])
+    requires { ⌜ Rows (now top) (now bottom) × (now first ≡ blank) ⌝ }
+    ensures { λ _. ⌜ Figures (firstColumn (now (top .entry)) (now (bottom .entry))) (now (first .exit)) ⌝ }
+{
+    let mut i = top.len();
+    let mut c = i as u16;
+    while 0 < i {
+        i -= 1;
+        first[wide(top[i])] = c;
+        first[wide(bottom[i])] = c;
+        c -= 1;
+    }
 }
 
 // Fills three tables of zeros with the facts of each net.
@@ -37,14 +58,8 @@ pub fn fill(top: &[u16], bottom: &[u16], first: &mut [u16], last: &mut [u16], pi
     requires { ⌜ Rows (now top) (now bottom) × (now first ≡ blank) × (now last ≡ blank) × (now pins ≡ blank) ⌝ }
     ensures { λ _. ⌜ Filled (now (top .entry)) (now (bottom .entry)) (now (first .exit)) (now (last .exit)) (now (pins .exit)) ⌝ }
 {
-    let mut i = 0;
-    let mut c = 1u16;
-    while i < top.len() {
-        note(wide(top[i]), c, first, last, pins);
-        note(wide(bottom[i]), c, first, last, pins);
-        i += 1;
-        c += 1;
-    }
+    note_from_left(top, bottom, last, pins);
+    note_from_right(top, bottom, first);
     first[0] = 0;
     last[0] = 0;
     pins[0] = 0;

@@ -1,5 +1,5 @@
--- What the code's small steps and loops do: choosing a label, the labels of the tracks, the counts.
-use Prim.Native.Nat.{ℕ, zero, suc, _+_, _-_, _≤_, _<_}
+-- What the code's small steps and loops do: choosing a label, the labels of the tracks, the tables of pieces begun and of joins.
+use Prim.Native.Nat.{ℕ, _+_, _≤_, _<_}
 use mathlib.Core.Path.{_≡_, refl, sym, _∙_, ap}
 use mathlib.Core.Logic.{_≢_, _⊎_, inl, inr, by-cases}
 use mathlib.Core.Bool.{Bool, true, false}
@@ -13,9 +13,7 @@ use native.Mathlib.Numerals.{add-one}
 use Rattle.grid.specs.Channel.{pick, bit}
 use Rattle.grid.proofs.Tests.{eq-eqb, ne-eqb}
 use Rattle.checker.specs.Pieces.Label.{sub, sub-hit, sub-miss, sub-self, choose, target}
-use Rattle.checker.specs.Pieces.Roots.{tally, root, roots}
-use Rattle.checker.specs.Pieces.Edges.{netOf}
-use Rattle.checker.specs.Strands.{chosen, Counted, Merged, lost, Lost}
+use Rattle.checker.specs.Strands.{chosen, Merged, lost, Grown, Joined, Begun}
 
 -- no edge keeps its label
 pub chosen-zero : (net n l o : ℕ) → net ≡ 0 → chosen net n l o ≡ o
@@ -31,6 +29,10 @@ chosen-hit net n l o z e = rw (ne-eqb net 0 z, eq-eqb net n e)
 pub chosen-miss : (net n l o : ℕ) → net ≢ 0 → net ≢ n → o ≡ chosen net n l o
 unfolding chosen
 chosen-miss net n l o z e = rw (ne-eqb net 0 z, ne-eqb net n e)
+
+-- nor if the net is 0
+pub chosen-other : (net n l o : ℕ) → net ≢ n → chosen net n l o ≡ o
+chosen-other net n l o e = by-cases (ℕ-discrete net 0) (chosen-zero net n l o) (λ z. sym (chosen-miss net n l o z e))
 
 -- one of the two labels is chosen
 pub chosen-either : (net n l o : ℕ) → (chosen net n l o ≡ l) ⊎ (chosen net n l o ≡ o)
@@ -67,27 +69,55 @@ chosen-more net f q cs e l o a y = go (ℕ-discrete (net e) 0) (ℕ-discrete (ne
     go (no z) (yes d) y = rw (ne-eqb (net e) 0 z, eq-eqb (net e) (net q) d) (a (λ k. z (d ∙ k)))
     go (no z) (no d) y = let k = ne-eqb (net e) 0 z in rw (k, ne-eqb (net e) (net q) d) (rw k at y)
 
--- equal labels lose nothing
-pub lost-none : (a b M : ℕ) (count : List ℕ) → a ≡ b → Lost a b M count count
-lost-none a b M count e = record { long = refl; counts = λ N l. rw (eq-eqb a b e) (omega arith) }
+-- a bit is at most 1
+bit-small : (b : Bool) → bit b ≤ 1
+bit-small true = omega arith
+bit-small false = omega arith
 
--- a count that loses is not 0
-pub lost-one : (a b M c : ℕ) → a ≢ b → lost a b M M ≤ c → 1 ≤ c
-lost-one a b M c n h = rw (ne-eqb a b n, eq-eqb M M refl) at h
+-- one more for net M
+set-more : (a : List ℕ) (M N : ℕ) → M < length a → getD (set a M (getD a M 0 + 1)) N 0 ≡ getD a N 0 + bit (eqb M N)
+set-more a M N l =
+    let c = getD a M 0 + 1 in
+    by-cases (ℕ-discrete N M) (λ e. rw (e, getD-set-same a M c 0 l, eq-eqb M M refl))
+    (λ e. rw (getD-set-other a M N c 0 e, ne-eqb M N (λ x. e (sym x))) (omega arith))
 
--- different labels lose one
-pub lost-some :
-    (a b M : ℕ) (count : List ℕ) → a ≢ b → length count ≡ 257 → M ≤ 256 → lost a b M M ≤ getD count M 0
-    → Lost a b M count (set count M (getD count M 0 - 1))
-lost-some a b M count n l k h = record {
-  long = length-set count M (getD count M 0 - 1);
-  counts = λ N i.
-      by-cases (ℕ-discrete N M)
-      (λ e.
-      rw (e, getD-set-same count M (getD count M 0 - 1) 0 (omega arith), ne-eqb a b n, eq-eqb M M refl)
-      (omega (arith, lost-one a b M (getD count M 0) n h)))
-      (λ e. rw (getD-set-other count M N (getD count M 0 - 1) 0 e, ne-eqb a b n, ne-eqb M N (λ x. e (sym x))) (omega arith));
+-- a table that stays
+grown-none : (a : List ℕ) → Grown a a
+grown-none a = record { long = refl; most = λ N l. omega arith }
+
+-- one that takes one more for a net
+grown-one : (a : List ℕ) (M : ℕ) → M < length a → Grown a (set a M (getD a M 0 + 1))
+grown-one a M l = record {
+  long = length-set a M (getD a M 0 + 1);
+  most = λ N i. omega (arith, set-more a M N l, bit-small (eqb M N));
 }
+
+-- equal labels are no join
+pub joined-none : (a b M : ℕ) (joined : List ℕ) → a ≡ b → Joined a b M joined joined
+joined-none a b M joined e = record { grown = grown-none joined; counts = λ N l. rw (eq-eqb a b e) (omega arith) }
+
+-- different labels are
+pub joined-one :
+    (a b M : ℕ) (joined : List ℕ) → a ≢ b → M < length joined → Joined a b M joined (set joined M (getD joined M 0 + 1))
+joined-one a b M joined n l =
+    record { grown = grown-one joined M l; counts = λ N i. rw (ne-eqb a b n) (set-more joined M N l) }
+
+-- an edge that keeps its label begins a piece
+pub begun-one : (a b M : ℕ) (begun : List ℕ) → a ≡ b → M < length begun → Begun a b M begun (set begun M (getD begun M 0 + 1))
+begun-one a b M begun e l =
+    record { grown = grown-one begun M l; counts = λ N n i. rw (eq-eqb a b e) (omega (arith, set-more begun M N l)) }
+
+-- one that takes another does not, nor does no edge
+pub begun-none : (a b M : ℕ) (begun : List ℕ) → (M ≢ 0 → a ≢ b) → Begun a b M begun begun
+begun-none a b M begun h = record { grown = grown-none begun; counts = λ N n i. ap (_+_ (getD begun N 0)) (go N n (ℕ-discrete M 0)) }
+  where
+    none : (x : Bool) → pick x 0 (bit false) ≡ bit false
+    none true = refl
+    none false = refl
+
+    go : (N : ℕ) → N ≢ 0 → Dec (M ≡ 0) → lost a b M N ≡ bit (eqb M N)
+    go N n (yes z) = rw (ne-eqb M N (λ e. n (sym e ∙ z))) (none (eqb a b))
+    go N n (no z) = rw (ne-eqb a b (h z))
 
 -- the labels while the first k are changed
 pub record Merging (old new : ℕ) (lab₀ lab : List ℕ) (k : ℕ) : Type 0 where
@@ -135,44 +165,3 @@ merge-same old new t lab e = record { long = refl; at = λ k l. rw (← e) (sym 
 -- at the end
 pub merge-all : (old new t : ℕ) (lab₀ lab : List ℕ) (k : ℕ) → Merging old new lab₀ lab k → t ≤ k → Merged old new t lab₀ lab
 merge-all old new t lab₀ lab k m l = record { long = m .long; at = λ i h. m .below i (omega arith) }
-
--- the counts of the first i entries
-pub record Tallied (D count : List ℕ) (i : ℕ) : Type 0 where
-  pub long : length count ≡ 257
-  pub counts : (N : ℕ) → N ≤ 256 → getD count N 0 ≡ roots (netOf D) (λ p. p) i N
-
--- each at most i
-pub roots-few : (net : ℕ → ℕ) (i N : ℕ) → roots net (λ p. p) i N ≤ i
-unfolding roots tally
-roots-few net zero N = omega arith
-roots-few net (suc i) N = omega (arith, roots-few net i N, small (root net (λ p. p) N i))
-  where
-    small : (b : Bool) → bit b ≤ 1
-    small true = omega arith
-    small false = omega arith
-
--- at first
-pub tally-start : (D count : List ℕ) → length count ≡ 257 → ((N : ℕ) → N ≤ 256 → getD count N 0 ≡ 0) → Tallied D count 0
-unfolding roots tally
-tally-start D count l h = record { long = l; counts = h }
-
--- one entry more
-pub tally-more :
-    (D count : List ℕ) (i : ℕ)
-    → Tallied D count i → getD D i 0 ≤ 256 → Tallied D (set count (getD D i 0) (getD count (getD D i 0) 0 + 1)) (i + 1)
-unfolding roots tally
-tally-more D count i T s =
-    let v = getD D i 0 in
-    let c = getD count (getD D i 0) 0 + 1 in
-    rw (add-one i)
-    (record {
-      long = length-set count v c ∙ T .long;
-      counts = λ N l.
-          by-cases (ℕ-discrete N v)
-          (λ e. rw (e, getD-set-same count v c 0 (omega (arith, T .long)), eq-eqb v v refl, eq-eqb i i refl) (omega (arith, T .counts v s)))
-          (λ e. rw (getD-set-other count v N c 0 e, ne-eqb v N (λ k. e (sym k))) (omega (arith, T .counts N l)));
-    })
-
--- at the end
-pub tally-all : (D count : List ℕ) (i : ℕ) → Tallied D count i → i ≡ length D → Counted D (λ p. p) count
-tally-all D count i T e = record { long = T .long; counts = λ N l. T .counts N l ∙ ap (λ (k : ℕ). roots (netOf D) (λ p. p) k N) e }

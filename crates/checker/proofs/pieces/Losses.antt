@@ -1,4 +1,4 @@
--- A hook that changes a label takes one from the count of its net.
+-- A hook that changes a label takes one from the roots of its net.
 use Prim.Native.Nat.{ℕ, zero, suc, _+_, _<_}
 use mathlib.Core.Path.{_≡_, refl, sym, _∙_, ap, ap₂, subst, fun-ext}
 use mathlib.Core.Logic.{_≢_, by-cases}
@@ -14,7 +14,7 @@ use Rattle.checker.specs.Pieces.Roots.{tally, root, roots, is-root}
 use Rattle.checker.specs.Strands.{lost}
 
 -- equal tests have one count
-tally-same : (n : ℕ) (P Q : ℕ → Bool) → ((p : ℕ) → p < n → P p ≡ Q p) → tally n P ≡ tally n Q
+pub tally-same : (n : ℕ) (P Q : ℕ → Bool) → ((p : ℕ) → p < n → P p ≡ Q p) → tally n P ≡ tally n Q
 unfolding tally
 tally-same zero P Q h = refl
 tally-same (suc n) P Q h = ap₂ _+_ (ap bit (h n (omega arith))) (tally-same n P Q (λ p l. h p (omega arith)))
@@ -37,7 +37,7 @@ tally-less (suc n) P Q a l x y h = go (λ k. tally-less n P Q a k x y h) (ℕ-di
     go r (no e) = omega (arith, ap bit (h n (λ k. e (sym k))), r (omega arith))
 
 module _ (net : ℕ → ℕ) (L : ℕ → ℕ → ℕ → Type 0) (n : ℕ) (inside : (p : ℕ) → net p ≢ 0 → p < n) where
-  -- the count before a hook is the count after it and what the hook takes
+  -- the roots before a hook are those after it and what the hook takes
   pub roots-hook :
       (f : ℕ → ℕ) (cs : List ℕ) (e N : ℕ) → Good net L f
       → roots net f n N ≡ roots net (hook net f cs e) n N + lost (f e) (target net f cs e) (net e) N

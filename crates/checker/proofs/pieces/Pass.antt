@@ -11,8 +11,9 @@ use Rattle.grid.specs.Grid.{verticalOf, horizontalOf, OnePiece}
 use Rattle.checker.specs.Pieces.Scan.{prev, sweep, column}
 use Rattle.checker.specs.Pieces.Edges.{netOf}
 use Rattle.checker.specs.Pieces.Exact.{labels, pieces, exact}
-use Rattle.checker.specs.Strands.{Drawn, Column, seen, Labs, Counted, State}
+use Rattle.checker.specs.Strands.{Drawn, Entry, Column, seen, Labs, Table, Begun, CountedTo, CountedAll, State}
 use Rattle.checker.proofs.pieces.Alone.{fresh}
+use Rattle.checker.proofs.pieces.Counts.{counted-start, counted-first, counted-last}
 use Rattle.checker.proofs.pieces.Step.{prev-zero, prev-suc, room, short}
 
 -- the column at b is number x
@@ -34,40 +35,44 @@ seen-end D t b q x e o = rw (index-of t b x e, e, o)
 pub small-base : (D : List ℕ) (t b q : ℕ) → Column D t b q → b < 1000000
 small-base D t b q C = omega (arith, room D t b q C, short D t b q C)
 
--- the first point: the lowest edge is its own label
+-- the first point: the lowest edge is its own label and begins a piece
 pub begin-state :
-    (D : List ℕ) (t b q : ℕ) (lab count : List ℕ) → Column D t b q → Labs D t b q 0 (seen D t b q 0) lab → Counted D (seen D t b q 0) count
-    → State D t b q 0 b lab count
-begin-state D t b q lab count C L c = record {
-  down =
-      sym
-      (rw (seen-start D t b q (C .x) (C .base))
-      (ap (sweep (netOf D) (length D) t (C .x)) (omega arith)
-      ∙ fresh (netOf D) (length D) t (C .x) b (omega (arith, room D t b q C)) (omega (arith, C .base)) .mine));
-  labs = L;
-  counted = c;
+    (D : List ℕ) (t b q M : ℕ) (lab begun begun′ joined : List ℕ) → Column D t b q → Labs D t b q 0 (seen D t b q 0) lab
+    → CountedTo D (seen D t b q 0) b begun joined → Entry D b M → Begun b b M begun begun′ → State D t b q 0 b lab begun′ joined
+begin-state D t b q M lab begun begun′ joined C L c e g = record {
+  labels = record {
+    down = λ n.
+        sym
+        (rw (seen-start D t b q (C .x) (C .base))
+        (ap (sweep (netOf D) (length D) t (C .x)) (omega arith)
+        ∙ fresh (netOf D) (length D) t (C .x) b (omega (arith, room D t b q C)) (omega (arith, C .base)) .mine));
+    labs = L;
+  };
+  counted = counted-first D t b (seen D t b q 0) M begun begun′ joined e c g;
 }
 
 -- after the last point
 pub end-state :
-    (D : List ℕ) (t b q j vl : ℕ) (lab count : List ℕ) → State D t b q j vl lab count → j ≡ t
-    → Labs D t b q t (seen D t b q t) lab × Counted D (seen D t b q t) count
-end-state D t b q j vl lab count s e =
-    subst (λ (k : ℕ). Labs D t b q k (seen D t b q k) lab × Counted D (seen D t b q k) count) e (s .labs, s .counted)
+    (D : List ℕ) (t b q j vl : ℕ) (lab begun joined : List ℕ) → State D t b q j vl lab begun joined → j ≡ t
+    → Labs D t b q t (seen D t b q t) lab × CountedTo D (seen D t b q t) (b + 2 * t + 1) begun joined
+end-state D t b q j vl lab begun joined s e =
+    let z = subst (λ (k : ℕ). State D t b q k vl lab begun joined) e s in
+    (z .labels .labs, counted-last D t b (seen D t b q t) begun joined (z .counted))
 
 -- x columns are passed
-pub record Passed (D : List ℕ) (w t x b q : ℕ) (lab count : List ℕ) : Type 0 where
+pub record Passed (D : List ℕ) (w t x b q : ℕ) (lab begun joined : List ℕ) : Type 0 where
   pub below : x ≤ w
   pub base : b ≡ x * (2 * t + 1)
   pub before : q ≡ prev (length D) t x
   pub labs : Labs D t b q 0 (sweep (netOf D) (length D) t x) lab
-  pub counted : Counted D (sweep (netOf D) (length D) t x) count
+  pub counted : CountedTo D (sweep (netOf D) (length D) t x) b begun joined
 
 -- none at first
 pub pass-start :
-    (D : List ℕ) (w t : ℕ) (lab count : List ℕ) → length lab ≡ 512 → Counted D (λ p. p) count → Passed D w t 0 0 (length D) lab count
+    (D : List ℕ) (w t : ℕ) (lab begun joined : List ℕ) → length lab ≡ 512 → Table 0 begun → Table 0 joined
+    → Passed D w t 0 0 (length D) lab begun joined
 unfolding sweep
-pass-start D w t lab count l c = record {
+pass-start D w t lab begun joined l x y = record {
   below = omega arith;
   base = omega arith;
   before = sym (prev-zero (length D) t);
@@ -76,17 +81,15 @@ pass-start D w t lab count l c = record {
     done = λ k i. absurd (omega arith);
     todo = λ k i m n. absurd (n (List·getD-eq-default D 0 {n = length D + k} (omega arith)));
   };
-  counted = c;
+  counted = counted-start D begun joined x y;
 }
 
-module _ (D : List ℕ) (w t x b q : ℕ) (lab count : List ℕ) (d : Drawn D w t) (p : Passed D w t x b q lab count) where
+module _ (D : List ℕ) (w t x b q : ℕ) (lab begun joined : List ℕ) (d : Drawn D w t) (p : Passed D w t x b q lab begun joined) where
   -- the next column can be taken
-  pub pass-column : x < w → Column D t b q × (Labs D t b q 0 (seen D t b q 0) lab × Counted D (seen D t b q 0) count)
+  pub pass-column : x < w → Column D t b q × (Labs D t b q 0 (seen D t b q 0) lab × CountedTo D (seen D t b q 0) b begun joined)
   pass-column l =
-      let e = sym (seen-start D t b q x (p .base)) in (
-        record { w = w; x = x; drawn = d; below = l; base = p .base; before = p .before },
-        (subst (λ (f : ℕ → ℕ). Labs D t b q 0 f lab) e (p .labs), subst (λ (f : ℕ → ℕ). Counted D f count) e (p .counted)),
-      )
+      let e = seen-start D t b q x (p .base) in
+      (record { w = w; x = x; drawn = d; below = l; base = p .base; before = p .before }, rw e (p .labs, p .counted))
 
   -- its positions are small
   pub pass-small : x < w → b + 2 * t + 1 ≤ 1000000
@@ -94,9 +97,10 @@ module _ (D : List ℕ) (w t x b q : ℕ) (lab count : List ℕ) (d : Drawn D w 
 
   -- and it is passed
   pub pass-next :
-      (lab′ count′ : List ℕ) → x < w → Labs D t b q t (seen D t b q t) lab′ → Counted D (seen D t b q t) count′
-      → Passed D w t (x + 1) (b + 2 * t + 1) (b + t + 1) lab′ count′
-  pass-next lab′ count′ l L c =
+      (lab′ begun′ joined′ : List ℕ) → x < w → Labs D t b q t (seen D t b q t) lab′
+      → CountedTo D (seen D t b q t) (b + 2 * t + 1) begun′ joined′
+      → Passed D w t (x + 1) (b + 2 * t + 1) (b + t + 1) lab′ begun′ joined′
+  pass-next lab′ begun′ joined′ l L c =
       let e = seen-end D t b q x (p .base) (p .before) in
       rw (add-one x)
       (record {
@@ -106,23 +110,27 @@ module _ (D : List ℕ) (w t x b q : ℕ) (lab count : List ℕ) (d : Drawn D w 
         labs = record {
           long = L .long;
           done = λ k i. absurd (omega arith);
-          todo = λ k i m n. L .done k m ∙ ap (λ (f : ℕ → ℕ). f (b + t + 1 + k)) e;
+          todo = λ k i m n. L .done k m n ∙ ap (λ (f : ℕ → ℕ). f (b + t + 1 + k)) e;
         };
-        counted = subst (λ (f : ℕ → ℕ). Counted D f count′) e c;
+        counted = rw e at c;
       })
 
   -- until all are
-  pub pass-end : w ≤ x → Counted D (sweep (netOf D) (length D) t w) count
-  pass-end l = subst (λ (k : ℕ). Counted D (sweep (netOf D) (length D) t k) count) (omega (arith, p .below)) (p .counted)
+  pub pass-end : w ≤ x → CountedAll D w t begun joined
+  pass-end l =
+      let e : x ≡ w = omega (arith, p .below) in
+      let o : b ≡ length D = rw e at (p .base) ∙ sym (d .size) in
+      rw (e, o) at (p .counted)
 
--- a count of at most 1 is a net in one piece
+-- at most one piece more than the joins is a net in one piece
 pub counted-exact :
-    (D : List ℕ) (w t : ℕ) (count : List ℕ) → Drawn D w t → Counted D (sweep (netOf D) (length D) t w) count → (N : ℕ) → N ≢ 0 → N ≤ 256
-    → (getD count N 0 ≤ 1) ↔ OnePiece (verticalOf D t) (horizontalOf D t) N
+    (D : List ℕ) (w t : ℕ) (begun joined : List ℕ) → Drawn D w t → CountedAll D w t begun joined → (N : ℕ) → N ≢ 0 → N ≤ 256
+    → (getD begun N 0 ≤ 1 + getD joined N 0) ↔ OnePiece (verticalOf D t) (horizontalOf D t) N
 unfolding pieces labels
-counted-exact D w t count d c N n l =
+counted-exact D w t begun joined d c N n l =
     let e = exact D t w (omega (arith, d .size)) N n in
-    (λ k. e .0 (omega (arith, c .counts N l)), λ o. omega (arith, c .counts N l, e .1 o))
+    let o = c .counts N n l in
+    (λ k. e .0 (omega arith), λ k. omega (arith, e .1 k))
 
 -- a drawing within the limits is short
 pub drawn-short : (D : List ℕ) (w t : ℕ) → Drawn D w t → length D ≤ 1000000

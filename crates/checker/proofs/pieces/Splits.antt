@@ -1,19 +1,17 @@
 -- Refusal 16: nets in more than one piece, by the decision and by the counts.
-use Prim.Native.Nat.{ℕ, zero, suc, _≤_, _<_}
+use Prim.Native.Nat.{ℕ, zero, suc, _+_, _≤_, _<_}
 use mathlib.Core.Path.{_≡_, refl, sym, _∙_, ap}
 use mathlib.Core.Logic.{_≢_, by-cases}
 use mathlib.Core.Bool.{true, false}
 use mathlib.Core.List.{List}
-use lib.ListN.{length, getD}
+use lib.ListN.{getD}
 use native.Mathlib.Omega.{arith}
 use native.Mathlib.Decide.{ℕ-discrete, decLe}
 use Rattle.grid.specs.Channel.{bit}
 use Rattle.grid.specs.Grid.{OnePiece, verticalOf, horizontalOf}
 use Rattle.grid.proofs.Tests.{eq-eqb, ne-eqb, lt-ltb, le-ltb}
-use Rattle.checker.specs.Pieces.Scan.{sweep}
-use Rattle.checker.specs.Pieces.Edges.{netOf}
 use Rattle.checker.specs.Pieces.Exact.{whole?}
-use Rattle.checker.specs.Strands.{Drawn, Counted, many}
+use Rattle.checker.specs.Strands.{Drawn, CountedAll, many}
 use Rattle.checker.specs.Check.{isNo, split}
 use Rattle.checker.proofs.Lowest.{NoneBelow}
 use Rattle.checker.proofs.pieces.Pass.{counted-exact}
@@ -49,31 +47,31 @@ module _ (t : ℕ) (D : List ℕ) where
       go (yes o) = absurd (h o)
       go (no o) = refl
 
--- net 0 is none
-pub many-zero : (count : List ℕ) → NoneBelow (many count) 1
-unfolding many
-many-zero count = record { none = λ k l. rw (eq-eqb k 0 (omega arith)) }
+module _ (begun joined : List ℕ) where
+  -- net 0 is none
+  pub many-zero : NoneBelow (many begun joined) 1
+  unfolding many
+  many-zero = record { none = λ k l. rw (eq-eqb k 0 (omega arith)) }
 
--- a count over 1
-pub many-yes : (count : List ℕ) (N : ℕ) → N ≢ 0 → 1 < getD count N 0 → many count N ≡ true
-unfolding many
-many-yes count N n l = rw (ne-eqb N 0 n) (lt-ltb 1 (getD count N 0) l)
+  -- more pieces begun than one and the joins
+  pub many-yes : (N : ℕ) → N ≢ 0 → 1 + getD joined N 0 < getD begun N 0 → many begun joined N ≡ true
+  unfolding many
+  many-yes N n l = rw (ne-eqb N 0 n) (lt-ltb (1 + getD joined N 0) (getD begun N 0) l)
 
--- a count of at most 1
-pub many-not : (count : List ℕ) (N : ℕ) → getD count N 0 ≤ 1 → many count N ≡ false
-unfolding many
-many-not count N l =
-    by-cases (ℕ-discrete N 0) (λ e. rw (eq-eqb N 0 e)) (λ e. rw (ne-eqb N 0 e) (le-ltb 1 (getD count N 0) l))
+  -- and not more
+  pub many-not : (N : ℕ) → getD begun N 0 ≤ 1 + getD joined N 0 → many begun joined N ≡ false
+  unfolding many
+  many-not N l =
+      by-cases (ℕ-discrete N 0) (λ e. rw (eq-eqb N 0 e)) (λ e. rw (ne-eqb N 0 e) (le-ltb (1 + getD joined N 0) (getD begun N 0) l))
 
--- the counts say which nets are split
-pub many-split :
-    (D : List ℕ) (w t : ℕ) (count : List ℕ) → Drawn D w t → Counted D (sweep (netOf D) (length D) t w) count
-    → (N : ℕ) → N < 257 → many count N ≡ split t D N
-many-split D w t count d c N l =
-    by-cases (ℕ-discrete N 0)
-    (λ e. rw e (many-zero count .none 0 (omega arith) ∙ sym (not-split t D 0 (λ n. absurd (n refl)))))
-    (λ n.
-    let e = counted-exact D w t count d c N n (omega arith) in
-    by-cases (decLe (getD count N 0) 1)
-    (λ k. many-not count N k ∙ sym (not-split t D N (λ z. e .0 k)))
-    (λ k. many-yes count N n (omega arith) ∙ sym (is-split t D N n (λ o. k (e .1 o)))))
+  -- the counts say which nets are split
+  pub many-split :
+      (D : List ℕ) (w t : ℕ) → Drawn D w t → CountedAll D w t begun joined → (N : ℕ) → N < 257 → many begun joined N ≡ split t D N
+  many-split D w t d c N l =
+      by-cases (ℕ-discrete N 0)
+      (λ e. rw e (many-zero .none 0 (omega arith) ∙ sym (not-split t D 0 (λ n. absurd (n refl)))))
+      (λ n.
+      let e = counted-exact D w t begun joined d c N n (omega arith) in
+      by-cases (decLe (getD begun N 0) (1 + getD joined N 0))
+      (λ k. many-not N k ∙ sym (not-split t D N (λ z. e .0 k)))
+      (λ k. many-yes N n (omega arith) ∙ sym (is-split t D N n (λ o. k (e .1 o)))))

@@ -1,10 +1,10 @@
--- One point: what the labels and counts hold after its left, its upper and its right edge.
+-- One point: what the labels and tables hold after its left, its upper and its right edge, and where two nets only cross.
 use Prim.Native.Nat.{ℕ, zero, suc, _+_, _*_, _/_, _≤_, _<_}
-use mathlib.Core.Path.{_≡_, refl, sym, _∙_, ap, subst}
+use mathlib.Core.Path.{_≡_, refl, sym, _∙_, ap}
 use mathlib.Core.Logic.{_≢_, _⊎_, inl, inr, by-cases}
 use mathlib.Core.List.{List, [], _∷_}
 use lib.ListN.{length, getD, set, length-set}
-use lib.Seq.{getD-set-same, getD-set-other}
+use lib.Seq.{getD-set-same, getD-set-other, set-getD}
 use native.Mathlib.Omega.{arith}
 use native.Mathlib.Decide.{ℕ-discrete}
 use native.Mathlib.Nat.{mul-le-mul-right, mul-div-cancel}
@@ -14,17 +14,13 @@ use Rattle.checker.specs.Pieces.Label.{sub, sub-self, sub-new, target, h
 use Rattle.checker.specs.Pieces.Roots.{roots}
 use Rattle.checker.specs.Pieces.Scan.{edges, prev, sweep, column, point₁, point₂, point, Touch, good₁, good₂, good-column, run}
 use Rattle.checker.specs.Pieces.Edges.{netOf, Meets, meets-links, inside, touch}
-use Rattle.checker.specs.Strands.{Column, seen, seen₁, seen₂, seen₃, Labs, Counted, Merged, lost, Lost, State, State₁, State₂, State₃, chosen}
+use Rattle.checker.specs.Strands.{Column, seen, seen₁, seen₂, seen₃, Labs, Labels, Labels₁, Labels₂, Labels₃, Merged, chosen}
+use Rattle.checker.specs.Strands.{lost, Joined, Begun, Joins, Begins, JoinsLeft, BeginsUp, BeginsRight, State}
 use Rattle.checker.proofs.pieces.Alone.{Alone, hook-alone, hook-self, Ahead, Left, left-not, alone₁, alone₂, ahead-column, left-of, fresh}
 use Rattle.checker.proofs.pieces.Losses.{roots-hook}
-use Rattle.checker.proofs.pieces.Arrays.{chosen-zero, chosen-either, target-zero, chosen-none, chosen-more}
-
--- the counts after a step that loses what the counts of roots lose
-counted-step :
-    (D : List ℕ) (f f′ : ℕ → ℕ) (a b M : ℕ) (count count′ : List ℕ) → Counted D f count
-    → ((N : ℕ) → roots (netOf D) f (length D) N ≡ roots (netOf D) f′ (length D) N + lost a b M N) → Lost a b M count count′ → Counted D f′ count′
-counted-step D f f′ a b M count count′ c r e =
-    record { long = e .long ∙ c .long; counts = λ N l. omega (arith, c .counts N l, r N, e .counts N l) }
+use Rattle.checker.proofs.pieces.Arrays.{chosen-zero, chosen-hit, chosen-other, chosen-either, target-zero, chosen-none, chosen-more}
+use Rattle.checker.proofs.pieces.Arrays.{merge-same, joined-none, begun-none}
+use Rattle.checker.proofs.pieces.Counts.{counted-next}
 
 -- where the horizontal entries of the column before the first begin
 pub prev-zero : (n t : ℕ) → prev n t 0 ≡ n
@@ -53,7 +49,11 @@ module _ (D : List ℕ) (t b q : ℕ) (C : Column D t b q) where
       go zero e o = omega (arith, prev-zero (length D) t)
       go (suc x) e o = omega (arith, prev-suc (length D) t x, room)
 
-  -- which are of an earlier column
+  -- and so is each net
+  pub net-small : (p n : ℕ) → n ≡ netOf D p → n ≤ 256
+  net-small p n e = rw e (C .drawn .nets p)
+
+  -- the left edges are of an earlier column
   left-is : Left (length D) t b q
   left-is = rw (C .base, C .before) (left-of (length D) t (C .x))
 
@@ -102,22 +102,23 @@ module _ (D : List ℕ) (t b q : ℕ) (C : Column D t b q) where
     pub small-left : q + j < 1000000
     small-left = omega (arith, left-small, short, C .drawn .high)
 
-    -- a step from the labels f to f′ that gives edge p the label l for a, by what the counts lose
+    -- a step from the labels f to f′ that gives edge p the label l for a, by what the roots lose
     record Given (f f′ : ℕ → ℕ) (p a l : ℕ) : Type 0 where
       losses : (N : ℕ) → roots (netOf D) f (length D) N ≡ roots (netOf D) f′ (length D) N + lost a l (netOf D p) N
 
-    -- what the count loses is there
-    asked : (f f′ : ℕ → ℕ) (p a l n : ℕ) (count : List ℕ) → Given f f′ p a l → Counted D f count → n ≡ netOf D p
-        → (n ≤ 256) × ((length count ≡ 257) × (lost a l n n ≤ getD count n 0))
-    asked f f′ p a l n count g c e =
-        let s : netOf D p ≤ 256 = C .drawn .nets p in
-        rw e (s, (c .long, omega (arith, g .losses (netOf D p), c .counts (netOf D p) s)))
+    -- the joins after it
+    joins :
+        (f f′ : ℕ → ℕ) (p a l n : ℕ) (joined joined′ : List ℕ) → Given f f′ p a l → n ≡ netOf D p → Joined a l n joined joined′
+        → Joins D f f′ joined joined′
+    joins f f′ p a l n joined joined′ g e k =
+        record { grown = k .grown; counts = λ N i. omega (arith, g .losses N, rw e at (k .counts N i)) }
 
-    -- the count after it
-    counted : (f f′ : ℕ → ℕ) (p a l n : ℕ) (count count′ : List ℕ) → Given f f′ p a l → Counted D f count → n ≡ netOf D p → Lost a l n count count′
-        → Counted D f′ count′
-    counted f f′ p a l n count count′ g c e k =
-        counted-step D f f′ a l (netOf D p) count count′ c (g .losses) (subst (λ (x : ℕ). Lost a l x count count′) e k)
+    -- the pieces begun after it
+    begins :
+        (f f′ : ℕ → ℕ) (p a l n : ℕ) (begun begun′ : List ℕ) → Given f f′ p a l → n ≡ netOf D p → Begun a l n begun begun′
+        → Begins D f f′ p begun begun′
+    begins f f′ p a l n begun begun′ g e k =
+        record { grown = k .grown; counts = λ N z i. omega (arith, g .losses N, rw e at (k .counts N z i)) }
 
     -- the left edge, of which the code knows the label ll if it is an edge
     record LeftStep (ll nl : ℕ) : Type 0 where
@@ -127,7 +128,7 @@ module _ (D : List ℕ) (t b q : ℕ) (C : Column D t b q) where
 
     -- what the code's choice does to it
     left-step :
-        (vl ll : ℕ) → vl ≡ seen D t b q j (b + j) → (netOf D (q + j) ≢ 0 → ll ≡ seen D t b q j (q + j))
+        (vl ll : ℕ) → (netOf D (b + j) ≢ 0 → vl ≡ seen D t b q j (b + j)) → (netOf D (q + j) ≢ 0 → ll ≡ seen D t b q j (q + j))
         → LeftStep ll (chosen (netOf D (q + j)) (netOf D (b + j)) vl ll)
     unfolding point₁
     left-step vl ll v a =
@@ -149,7 +150,7 @@ module _ (D : List ℕ) (t b q : ℕ) (C : Column D t b q) where
         }))
         (λ n.
         let e : chosen (net l) (net (b + j)) vl ll ≡ target net f cs l =
-        chosen-more net f (b + j) [] l vl ll (λ k. v) (a n ∙ sym (chosen-none net f l))
+        chosen-more net f (b + j) [] l vl ll v (a n ∙ sym (chosen-none net f l))
         in
         rw (e, a n)
         (record { given = loss; edge = λ k. sym (hook-self net f cs l); sent = λ p. sym (hook-is net f cs l p) }))
@@ -171,7 +172,7 @@ module _ (D : List ℕ) (t b q : ℕ) (C : Column D t b q) where
         })
 
     module _
-        (vl vd ln ll nl : ℕ) (lab count : List ℕ) (s : State D t b q j vl lab count)
+        (vl vd ln ll nl : ℕ) (lab : List ℕ) (s : Labels D t b q j vl lab)
         (e₁ : vd ≡ netOf D (b + j)) (e₂ : ln ≡ netOf D (q + j)) (e₃ : ll ≡ getD lab j 0) (e : nl ≡ chosen ln vd vl ll)
       where
         label : nl ≡ chosen (netOf D (q + j)) (netOf D (b + j)) vl ll
@@ -180,29 +181,27 @@ module _ (D : List ℕ) (t b q : ℕ) (C : Column D t b q) where
         left-made : LeftStep ll nl
         left-made = rw label (left-step vl ll (s .down) (λ n. e₃ ∙ s .labs .todo j (omega arith) row n))
 
-        -- what the left edge asks of the counts
-        pub left-asked : (ln ≤ 256) × ((length count ≡ 257) × (lost ll nl ln ln ≤ getD count ln 0))
-        left-asked = asked (seen D t b q j) (seen₁ D t b q j) (q + j) ll nl ln count (left-made .given) (s .counted) e₂
-
-        -- what holds after it
+        -- what holds after the left edge
         pub left-given :
-            (lab′ count′ : List ℕ) → Merged ll nl t lab lab′ → Lost ll nl ln count count′
-            → State₁ D t b q j vl nl count′ × Labs D t b q j (seen₁ D t b q j) lab′
-        left-given lab′ count′ y z =
+            (lab′ joined joined′ : List ℕ) → Merged ll nl t lab lab′ → Joined ll nl ln joined joined′
+            → Labels₁ D t b q j vl nl × (Labs D t b q j (seen₁ D t b q j) lab′ × JoinsLeft D t b q j joined joined′)
+        left-given lab′ joined joined′ y z =
             let r = left-made in (
               record {
-                down =
+                down = λ n.
                     sym
-                    (sym (r .sent (b + j)) ∙ ap (sub ll nl) (sym (s .down))
+                    (sym (r .sent (b + j)) ∙ ap (sub ll nl) (sym (s .down n))
                     ∙ rw label (still (chosen-either (netOf D (q + j)) (netOf D (b + j)) vl ll)));
                 left = r .edge;
-                counted = counted (seen D t b q j) (seen₁ D t b q j) (q + j) ll nl ln count count′ (r .given) (s .counted) e₂ z;
               },
-              record {
-                long = y .long ∙ s .labs .long;
-                done = λ k l. y .at k (omega arith) ∙ ap (sub ll nl) (s .labs .done k l) ∙ r .sent (b + t + 1 + k);
-                todo = λ k l m n. y .at k m ∙ ap (sub ll nl) (s .labs .todo k l m n) ∙ r .sent (q + k);
-              },
+              (
+                record {
+                  long = y .long ∙ s .labs .long;
+                  done = λ k l n. y .at k (omega arith) ∙ ap (sub ll nl) (s .labs .done k l n) ∙ r .sent (b + t + 1 + k);
+                  todo = λ k l m n. y .at k m ∙ ap (sub ll nl) (s .labs .todo k l m n) ∙ r .sent (q + k);
+                },
+                joins (seen D t b q j) (seen₁ D t b q j) (q + j) ll nl ln joined joined′ (r .given) e₂ z,
+              ),
             )
           where
             still : {c : ℕ} → (c ≡ vl) ⊎ (c ≡ ll) → sub ll c vl ≡ vl
@@ -215,7 +214,7 @@ module _ (D : List ℕ) (t b q : ℕ) (C : Column D t b q) where
     up-else p n = hook-alone (netOf D) (seen₁ D t b q j) ((q + j) ∷ (b + j) ∷ []) (b + j + 1) p alone-up n
 
     module _
-        (vl nl vd ln vu o ul : ℕ) (count : List ℕ) (s : State₁ D t b q j vl nl count)
+        (vl nl vd ln vu o ul : ℕ) (s : Labels₁ D t b q j vl nl)
         (e₁ : vd ≡ netOf D (b + j)) (e₂ : ln ≡ netOf D (q + j)) (e₃ : vu ≡ netOf D (b + j + 1))
         (e₄ : o ≡ chosen vu vd vl (b + j + 1)) (e : ul ≡ chosen vu ln nl o)
       where
@@ -226,23 +225,22 @@ module _ (D : List ℕ) (t b q : ℕ) (C : Column D t b q) where
             let f = seen₁ D t b q j in
             let u = b + j + 1 in
             let x : ul ≡ chosen (net u) (net (q + j)) nl (chosen (net u) (net (b + j)) vl u) = cc in
-            let y = chosen-more net f (b + j) [] u vl u (λ k. s .down) (sym (chosen-none net f u ∙ alone-up .mine)) in
+            let y = chosen-more net f (b + j) [] u vl u (s .down) (sym (chosen-none net f u ∙ alone-up .mine)) in
             let z = chosen-more net f (q + j) ((b + j) ∷ []) u nl (chosen (net u) (net (b + j)) vl u) (s .left) y in
             hooked f ((q + j) ∷ (b + j) ∷ []) u ul
             (good₁ net (Meets D t) (meets-links D t) t b q j (seen D t b q j) (touches j row) good₀) alone-up (x ∙ z)
 
-        -- what the upper edge asks of the counts
-        pub up-asked : (vu ≤ 256) × ((length count ≡ 257) × (lost (b + j + 1) ul vu vu ≤ getD count vu 0))
-        up-asked = asked (seen₁ D t b q j) (seen₂ D t b q j) (b + j + 1) (b + j + 1) ul vu count (up-made .given) (s .counted) e₃
-
-        -- what holds after it
-        pub up-given : (count′ : List ℕ) → Lost (b + j + 1) ul vu count count′ → State₂ D t b q j vl nl ul count′
-        up-given count′ z = record {
-          down = s .down ∙ sym (up-else (b + j) (omega arith));
-          left = λ n. s .left n ∙ sym (up-else (q + j) (left-not (length D) t b q j (b + j + 1) left-is row (omega (arith, room)) (omega arith)));
-          up = up-made .edge;
-          counted = counted (seen₁ D t b q j) (seen₂ D t b q j) (b + j + 1) (b + j + 1) ul vu count count′ (up-made .given) (s .counted) e₃ z;
-        }
+        -- what holds after the upper edge
+        pub up-given :
+            (begun begun′ : List ℕ) → Begun (b + j + 1) ul vu begun begun′ → Labels₂ D t b q j vl nl ul × BeginsUp D t b q j begun begun′
+        up-given begun begun′ z = (
+          record {
+            down = λ n. s .down n ∙ sym (up-else (b + j) (omega arith));
+            left = λ n. s .left n ∙ sym (up-else (q + j) (left-not (length D) t b q j (b + j + 1) left-is row (omega (arith, room)) (omega arith)));
+            up = λ n. up-made .edge;
+          },
+          begins (seen₁ D t b q j) (seen₂ D t b q j) (b + j + 1) (b + j + 1) ul vu begun begun′ (up-made .given) e₃ z,
+        )
 
     -- the right edge changes no other label
     right-else : (p : ℕ) → p ≢ b + t + 1 + j → seen₃ D t b q j p ≡ seen₂ D t b q j p
@@ -250,7 +248,7 @@ module _ (D : List ℕ) (t b q : ℕ) (C : Column D t b q) where
     right-else p n = hook-alone (netOf D) (seen₂ D t b q j) ((b + j + 1) ∷ (q + j) ∷ (b + j) ∷ []) (b + t + 1 + j) p alone-right n
 
     module _
-        (vl nl ul vd ln vu rn o p rl : ℕ) (count : List ℕ) (s : State₂ D t b q j vl nl ul count)
+        (vl nl ul vd ln vu rn o p rl : ℕ) (s : Labels₂ D t b q j vl nl ul)
         (e₁ : vd ≡ netOf D (b + j)) (e₂ : ln ≡ netOf D (q + j)) (e₃ : vu ≡ netOf D (b + j + 1)) (e₄ : rn ≡ netOf D (b + t + 1 + j))
         (e₅ : o ≡ chosen rn vd vl (b + t + 1 + j)) (e₆ : p ≡ chosen rn ln nl o) (e : rl ≡ chosen rn vu ul p)
       where
@@ -263,51 +261,117 @@ module _ (D : List ℕ) (t b q : ℕ) (C : Column D t b q) where
             let c₁ = chosen (net r) (net (b + j)) vl r in
             let c₂ = chosen (net r) (net (q + j)) nl c₁ in
             let x : rl ≡ chosen (net r) (net (b + j + 1)) ul c₂ = cc in
-            let y₁ = chosen-more net f (b + j) [] r vl r (λ k. s .down) (sym (chosen-none net f r ∙ alone-right .mine)) in
+            let y₁ = chosen-more net f (b + j) [] r vl r (s .down) (sym (chosen-none net f r ∙ alone-right .mine)) in
             let y₂ = chosen-more net f (q + j) ((b + j) ∷ []) r nl c₁ (s .left) y₁ in
-            let y₃ = chosen-more net f (b + j + 1) ((q + j) ∷ (b + j) ∷ []) r ul c₂ (λ k. s .up) y₂ in
+            let y₃ = chosen-more net f (b + j + 1) ((q + j) ∷ (b + j) ∷ []) r ul c₂ (s .up) y₂ in
             hooked f ((b + j + 1) ∷ (q + j) ∷ (b + j) ∷ []) r rl
             (good₂ net (Meets D t) (meets-links D t) t b q j (seen D t b q j) (touches j row) good₀) alone-right (x ∙ y₃)
 
-        -- what the right edge asks of the counts
-        pub right-asked : (rn ≤ 256) × ((length count ≡ 257) × (lost (b + t + 1 + j) rl rn rn ≤ getD count rn 0))
-        right-asked = asked (seen₂ D t b q j) (seen₃ D t b q j) (b + t + 1 + j) (b + t + 1 + j) rl rn count (right-made .given) (s .counted) e₄
-
-        -- what holds after it
-        pub right-given : (count′ : List ℕ) → Lost (b + t + 1 + j) rl rn count count′ → State₃ D t b q j ul rl count′
-        right-given count′ z = record {
-          up = s .up ∙ sym (right-else (b + j + 1) (omega arith));
-          right = right-made .edge;
-          counted = counted (seen₂ D t b q j) (seen₃ D t b q j) (b + t + 1 + j) (b + t + 1 + j) rl rn count count′ (right-made .given) (s .counted) e₄ z;
-        }
+        -- what holds after the right edge
+        pub right-given :
+            (begun begun′ : List ℕ) → Begun (b + t + 1 + j) rl rn begun begun′ → Labels₃ D t b q j ul rl × BeginsRight D t b q j begun begun′
+        right-given begun begun′ z = (
+          record { up = λ n. s .up n ∙ sym (right-else (b + j + 1) (omega arith)); right = λ n. right-made .edge },
+          begins (seen₂ D t b q j) (seen₃ D t b q j) (b + t + 1 + j) (b + t + 1 + j) rl rn begun begun′ (right-made .given) e₄ z,
+        )
 
     -- other labels change at the left edge only
     both-else : (p : ℕ) → p ≢ b + j + 1 → p ≢ b + t + 1 + j → seen₃ D t b q j p ≡ seen₁ D t b q j p
     both-else p m n = right-else p n ∙ up-else p m
 
     -- after the right edge's label is stored the next point is due
-    pub next-state :
-        (ul rl : ℕ) (lab count : List ℕ) → Labs D t b q j (seen₁ D t b q j) lab → State₃ D t b q j ul rl count
-        → State D t b q (j + 1) ul (set lab j rl) count
+    next-labels :
+        (ul rl : ℕ) (lab : List ℕ) → Labs D t b q j (seen₁ D t b q j) lab → Labels₃ D t b q j ul rl → Labels D t b q (j + 1) ul (set lab j rl)
     unfolding seen column
-    next-state ul rl lab count L s =
+    next-labels ul rl lab L s =
         rw (add-one j)
         (record {
-          down = s .up ∙ ap (seen₃ D t b q j) (omega arith);
+          down = λ n. let e : b + j + 1 ≡ b + suc j = omega arith in s .up (rw e n) ∙ ap (seen₃ D t b q j) e;
           labs = record {
             long = length-set lab j rl ∙ L .long;
-            done = λ k l. by-cases (ℕ-discrete k j) (here k) (before k l);
+            done = λ k l n. by-cases (ℕ-discrete k j) (here k n) (before k l n);
             todo = λ k l i n.
                 getD-set-other lab j k rl 0 (omega arith) ∙ L .todo k (omega arith) i n
                 ∙ sym
                 (both-else (q + k) (left-not (length D) t b q k (b + j + 1) left-is i (omega (arith, room)) (omega arith))
                 (left-not (length D) t b q k (b + t + 1 + j) left-is i (omega (arith, room)) (omega arith)));
           };
-          counted = s .counted;
         })
       where
-        here : (k : ℕ) → k ≡ j → getD (set lab j rl) k 0 ≡ seen₃ D t b q j (b + t + 1 + k)
-        here k e = rw e (getD-set-same lab j rl 0 (omega (arith, L .long, C .drawn .high)) ∙ s .right)
+        here : (k : ℕ) → netOf D (b + t + 1 + k) ≢ 0 → k ≡ j → getD (set lab j rl) k 0 ≡ seen₃ D t b q j (b + t + 1 + k)
+        here k n e = rw e (getD-set-same lab j rl 0 (omega (arith, L .long, C .drawn .high)) ∙ s .right (rw e at n))
 
-        before : (k : ℕ) → k < suc j → k ≢ j → getD (set lab j rl) k 0 ≡ seen₃ D t b q j (b + t + 1 + k)
-        before k l e = getD-set-other lab j k rl 0 e ∙ L .done k (omega arith) ∙ sym (both-else (b + t + 1 + k) (omega arith) (omega arith))
+        before : (k : ℕ) → k < suc j → netOf D (b + t + 1 + k) ≢ 0 → k ≢ j → getD (set lab j rl) k 0 ≡ seen₃ D t b q j (b + t + 1 + k)
+        before k l n e = getD-set-other lab j k rl 0 e ∙ L .done k (omega arith) n ∙ sym (both-else (b + t + 1 + k) (omega arith) (omega arith))
+
+    -- the labels then
+    seen-next : seen D t b q (j + 1) ≡ seen₃ D t b q j
+    unfolding seen column
+    seen-next = rw (add-one j)
+
+    -- with the tables
+    pub next-state :
+        (vl ul rl : ℕ) (lab lab′ begun begun₁ begun₂ joined joined′ : List ℕ) → State D t b q j vl lab begun joined
+        → Labs D t b q j (seen₁ D t b q j) lab′ → Labels₃ D t b q j ul rl → JoinsLeft D t b q j joined joined′ → BeginsUp D t b q j begun begun₁
+        → BeginsRight D t b q j begun₁ begun₂ → State D t b q (j + 1) ul (set lab′ j rl) begun₂ joined′
+    next-state vl ul rl lab lab′ begun begun₁ begun₂ joined joined′ s L k i u r = record {
+      labels = next-labels ul rl lab′ L k;
+      counted = rw seen-next
+          (counted-next D t b j (seen D t b q j) (seen₁ D t b q j) (seen₂ D t b q j) (seen₃ D t b q j) begun begun₁ begun₂ joined joined′
+          (s .counted) i u r);
+    }
+
+    module _
+        (vl vd ln vu rn : ℕ) (lab begun joined : List ℕ) (s : State D t b q j vl lab begun joined)
+        (e₁ : vd ≡ netOf D (b + j)) (e₂ : ln ≡ netOf D (q + j)) (e₃ : vu ≡ netOf D (b + j + 1)) (e₄ : rn ≡ netOf D (b + t + 1 + j))
+        (same : vd ≡ vu) (same′ : ln ≡ rn) (differ : vd ≢ ln)
+      where
+        -- where two nets only cross the left edge keeps its label
+        plain-left : getD lab j 0 ≡ chosen ln vd vl (getD lab j 0)
+        plain-left = sym (chosen-other ln vd vl (getD lab j 0) (λ e. differ (sym e)))
+
+        -- the upper edge takes that of the lower one
+        plain-up : (nl : ℕ) → vu ≢ 0 → chosen vu ln nl (chosen vu vd vl (b + j + 1)) ≡ vl
+        plain-up nl n =
+            chosen-other vu ln nl (chosen vu vd vl (b + j + 1)) (λ e. differ (same ∙ e)) ∙ sym (chosen-hit vu vd vl (b + j + 1) n (sym same))
+
+        -- and the right edge that of the left one
+        plain-right : (ul nl o : ℕ) → rn ≢ 0 → chosen rn vu ul (chosen rn ln nl o) ≡ nl
+        plain-right ul nl o n =
+            chosen-other rn vu ul (chosen rn ln nl o) (λ e. differ (same ∙ sym e ∙ sym same′)) ∙ sym (chosen-hit rn ln nl o n (sym same′))
+
+        -- so nothing changes
+        pub plain-state : State D t b q (j + 1) vl lab begun joined
+        plain-state =
+            let u = b + j + 1 in
+            let r = b + t + 1 + j in
+            let ll = getD lab j 0 in
+            let o = chosen vu vd vl u in
+            let ul = chosen vu ln ll o in
+            let o′ = chosen rn vd vl r in
+            let p = chosen rn ln ll o′ in
+            let rl = chosen rn vu ul p in
+            let x =
+            left-given vl vd ln ll ll lab (s .labels) e₁ e₂ refl plain-left lab joined joined (merge-same ll ll t lab refl)
+            (joined-none ll ll ln joined refl)
+            in
+            let new-up : vu ≢ 0 → u ≢ ul =
+            λ n e. absurd (omega (arith, alone-up .only (b + j) (sym (x .0 .down (λ z. n (sym same ∙ e₁ ∙ z))) ∙ sym (plain-up ll n) ∙ sym e)))
+            in
+            let y = up-given vl ll vd ln vu o ul (x .0) e₁ e₂ e₃ refl refl begun begun (begun-none u ul vu begun new-up) in
+            let new-right : rn ≢ 0 → r ≢ rl =
+            λ n e.
+            left-not (length D) t b q j r left-is row (omega (arith, room)) (omega arith)
+            (alone-right .only (q + j) (sym (y .0 .left (λ z. n (sym same′ ∙ e₂ ∙ z))) ∙ sym (plain-right ul ll o′ n) ∙ sym e))
+            in
+            let z =
+            right-given vl ll ul vd ln vu rn o′ p rl (y .0) e₁ e₂ e₃ e₄ refl refl refl begun begun (begun-none r rl rn begun new-right)
+            in
+            let k : Labels₃ D t b q j vl ll =
+            record {
+              up = λ n. sym (plain-up ll (λ i. n (sym e₃ ∙ i))) ∙ z .0 .up n;
+              right = λ n. sym (plain-right ul ll o′ (λ i. n (sym e₄ ∙ i))) ∙ z .0 .right n;
+            }
+            in
+            rw (set-getD lab j 0) at
+            (next-state vl vl ll lab lab begun begun begun joined joined s (x .1 .0) k (x .1 .1) (y .1) (z .1))

@@ -8,13 +8,13 @@ use Rattle.checker.proofs.pieces.find_many.Statement.{statement}
 use Rattle.checker.proofs.pieces.find_many.Tie as tie
 
 abbrev Inv-loop : tie.InvT-loop
-Inv-loop count n₀ n = (1 ≤ n) × ((n ≤ 257) × NoneBelow (many count) n)
+Inv-loop begun joined n₀ n = (1 ≤ n) × ((n ≤ 257) × NoneBelow (many begun joined) n)
 
 abbrev μ-loop : tie.MeasureT-loop
-μ-loop count n₀ n = 257 - n
+μ-loop begun joined n₀ n = 257 - n
 
 loop-holds : tie.Need-loop-holds Inv-loop μ-loop
-loop-holds c = (omega arith, (omega arith, many-zero _))
+loop-holds c = (omega arith, (omega arith, many-zero _ _))
 
 mul-if1 : tie.Need-mul-if1 Inv-loop μ-loop
 mul-if1 c = omega arith
@@ -22,9 +22,19 @@ mul-if1 c = omega arith
 element-copy-out-if1 : tie.Need-element-copy-out-if1 Inv-loop μ-loop
 element-copy-out-if1 c = omega arith
 
+add-if1 : tie.Need-add-if1 Inv-loop μ-loop
+add-if1 c = omega (arith, c .before .before .before .pre .most (c .before .before .loop .n) (omega arith))
+
+mul-if1-2 : tie.Need-mul-if1-2 Inv-loop μ-loop
+mul-if1-2 c = omega arith
+
+element-copy-out-if1-2 : tie.Need-element-copy-out-if1-2 Inv-loop μ-loop
+element-copy-out-if1-2 c = omega arith
+
 returns : tie.Need-returns Inv-loop μ-loop
 returns c =
-    found-at _ _ _ (c .before .before .before .loop .inv .1 .1) (c .before .before .loop-test .taken) (many-yes _ _ (omega arith) (c .if1 .taken))
+    found-at _ _ _ (c .before .before .before .before .loop .inv .1 .1) (c .before .before .before .loop-test .taken)
+    (many-yes _ _ _ (omega arith) (c .if1 .taken))
 
 add-n : tie.Need-add-n Inv-loop μ-loop
 add-n c = omega arith
@@ -33,7 +43,7 @@ loop-less : tie.Need-loop-less Inv-loop μ-loop
 loop-less c = omega arith
 
 loop-again : tie.Need-loop-again Inv-loop μ-loop
-loop-again c = (omega arith, (omega arith, none-more _ _ (c .before .before .before .loop .inv .1 .1) (many-not _ _ (c .if1 .left))))
+loop-again c = (omega arith, (omega arith, none-more _ _ (c .before .before .before .before .loop .inv .1 .1) (many-not _ _ _ (c .if1 .left))))
 
 returns-2 : tie.Need-returns-2 Inv-loop μ-loop
 returns-2 c = found-none _ _ _ (c .before .loop .inv .1 .1) (c .loop-test .left)
@@ -47,6 +57,9 @@ find-many-spec =
     loop-holds
     mul-if1
     element-copy-out-if1
+    add-if1
+    mul-if1-2
+    element-copy-out-if1-2
     returns
     add-n
     loop-less

@@ -1,7 +1,7 @@
 -- `checker::pieces::left` meets its contract: the left edge of a point.
 use native.Mathlib.Omega.{arith}
 use mathlib.Core.Path.{refl}
-use Rattle.checker.proofs.pieces.Step.{left-asked, left-given}
+use Rattle.checker.proofs.pieces.Step.{net-small, left-given}
 use borrow.Author.Needs.{needs}
 use Rattle.checker.proofs.pieces.left.Statement.{statement}
 use Rattle.checker.proofs.pieces.left.Tie as tie
@@ -22,21 +22,21 @@ choose-requires c κs = search needs
 merge-requires : tie.Need-merge-requires
 merge-requires c κs =
     let s = c .before .before .before .before .pre in
-    (omega (arith, s .0 .drawn .high), s .1 .1 .1 .1 .labs .long)
+    (omega (arith, s .0 .drawn .high), s .1 .1 .1 .1 .0 .labs .long)
 
-lose-requires : tie.Need-lose-requires
-lose-requires c κs =
+join-requires : tie.Need-join-requires
+join-requires c κs =
     let s = c .before .before .before .before .before .before .pre in
-    left-asked _ _ _ _ (s .0) _ (s .1 .0) _ _ _ _ _ _ _ (s .1 .1 .1 .1) (s .1 .1 .0) (s .1 .1 .1 .0) refl (c .before .before .before .choose .ensures)
+    (net-small _ _ _ _ (s .0) _ _ (s .1 .1 .1 .0), s .1 .1 .1 .1 .1)
 
 returns : tie.Need-returns
 returns c =
     let s = c .before .before .before .before .before .before .before .pre in
-    left-given _ _ _ _ (s .0) _ (s .1 .0) _ _ _ _ _ _ _ (s .1 .1 .1 .1) (s .1 .1 .0) (s .1 .1 .1 .0) refl
-    (c .before .before .before .before .choose .ensures) _ _
-    (c .before .before .merge .ensures) (c .lose .ensures)
+    left-given _ _ _ _ (s .0) _ (s .1 .0) _ _ _ _ _ _ (s .1 .1 .1 .1 .0) (s .1 .1 .0) (s .1 .1 .1 .0) refl
+    (c .before .before .before .before .choose .ensures) _ _ _
+    (c .before .before .merge .ensures) (c .join .ensures)
 
 pub left-spec : {M : Type 1} → statement M
 left-spec =
     tie.close
-    (tie.spec mul-ll element-copy-out-ll choose-requires merge-requires lose-requires returns)
+    (tie.spec mul-ll element-copy-out-ll choose-requires merge-requires join-requires returns)

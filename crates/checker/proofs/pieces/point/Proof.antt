@@ -1,7 +1,7 @@
--- `checker::pieces::point` meets its contract: its entries are read, the three edges follow one after the other, and the track takes its label.
+-- `checker::pieces::point` meets its contract: its entries are read, and its edges meet.
 use native.Mathlib.Omega.{arith}
 use mathlib.Core.Path.{refl}
-use Rattle.checker.proofs.pieces.Step.{room, small-right, small-left, next-state}
+use Rattle.checker.proofs.pieces.Step.{room, small-right, small-left}
 use borrow.Author.Needs.{needs}
 use Rattle.checker.proofs.pieces.point.Statement.{statement}
 use Rattle.checker.proofs.pieces.point.Tie as tie
@@ -74,35 +74,13 @@ shared-slice-read-rn c =
     let s = c .before .before .before .before .before .pre in
     omega (arith, room _ _ _ _ (s .0), s .1 .0)
 
-left-requires : tie.Need-left-requires
-left-requires c κs =
-    let s = c .before .before .before .before .before .before .before .pre in
-    (s .0, (s .1 .0, (refl, (c .before .before .before .before .entry .ensures, s .1 .1))))
-
-up-requires : tie.Need-up-requires
-up-requires c κs =
-    let s = c .before .before .before .before .before .before .before .before .before .pre in
-    (s .0, (s .1 .0, (refl, (c .before .before .before .before .before .before .entry .ensures, (refl, c .before .left .ensures .0)))))
-
-right-requires : tie.Need-right-requires
-right-requires c κs =
-    let s = c .before .before .before .before .before .before .before .before .before .before .before .pre in
-    (s .0, (s .1 .0, (refl, (c .before .before .before .before .before .before .before .before .entry .ensures, (refl, (refl, c .before .up .ensures))))))
-
-mul-lab : tie.Need-mul-lab
-mul-lab c =
-    let s = c .before .before .before .before .before .before .before .before .before .before .before .before .pre in
-    omega (arith, s .1 .0, s .0 .drawn .high)
-
-element-write-lab : tie.Need-element-write-lab
-element-write-lab c =
-    let s = c .before .before .before .before .before .before .before .before .before .before .before .before .pre in
-    omega (arith, s .1 .0, s .0 .drawn .high)
+meet-requires : tie.Need-meet-requires
+meet-requires c κs =
+    let s = c .before .before .before .before .before .before .before .before .pre in
+    (s .0, (s .1 .0, (refl, (c .before .before .before .before .before .entry .ensures, (refl, (refl, s .1 .1))))))
 
 returns : tie.Need-returns
-returns c =
-    let s = c .before .before .before .before .before .before .before .before .before .before .before .before .pre in
-    next-state _ _ _ _ (s .0) _ (s .1 .0) _ _ _ _ (c .before .before .before .before .left .ensures .1) (c .right .ensures)
+returns c = c .meet .ensures
 
 pub point-spec : {M : Type 1} → statement M
 point-spec =
@@ -122,9 +100,5 @@ point-spec =
     add-rn-3
     mul-rn
     shared-slice-read-rn
-    left-requires
-    up-requires
-    right-requires
-    mul-lab
-    element-write-lab
+    meet-requires
     returns)

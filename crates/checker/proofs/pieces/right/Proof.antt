@@ -1,6 +1,6 @@
 -- `checker::pieces::right` meets its contract: the right edge of a point.
 use native.Mathlib.Omega.{arith}
-use Rattle.checker.proofs.pieces.Step.{small-right, right-asked, right-given}
+use Rattle.checker.proofs.pieces.Step.{small-right, net-small, right-given}
 use borrow.Author.Needs.{needs}
 use Rattle.checker.proofs.pieces.right.Statement.{statement}
 use Rattle.checker.proofs.pieces.right.Tie as tie
@@ -34,20 +34,18 @@ choose-requires-2 c κs = search needs
 choose-requires-3 : tie.Need-choose-requires-3
 choose-requires-3 c κs = search needs
 
-lose-requires : tie.Need-lose-requires
-lose-requires c κs =
+begin-requires : tie.Need-begin-requires
+begin-requires c κs =
     let s = c .before .before .before .before .before .pre in
-    right-asked _ _ _ _ (s .0) _ (s .1 .0) _ _ _ _ _ _ _ _ _ _ _ (s .1 .1 .1 .1 .1 .1) (s .1 .1 .0) (s .1 .1 .1 .0) (s .1 .1 .1 .1 .0)
-    (s .1 .1 .1 .1 .1 .0)
-    (c .before .before .before .choose .ensures) (c .before .before .choose2 .ensures) (c .before .choose3 .ensures)
+    (net-small _ _ _ _ (s .0) _ _ (s .1 .1 .1 .1 .1 .0), s .1 .1 .1 .1 .1 .1 .1)
 
 returns : tie.Need-returns
 returns c =
     let s = c .before .before .before .before .before .before .pre in
-    right-given _ _ _ _ (s .0) _ (s .1 .0) _ _ _ _ _ _ _ _ _ _ _ (s .1 .1 .1 .1 .1 .1) (s .1 .1 .0) (s .1 .1 .1 .0) (s .1 .1 .1 .1 .0)
+    right-given _ _ _ _ (s .0) _ (s .1 .0) _ _ _ _ _ _ _ _ _ _ (s .1 .1 .1 .1 .1 .1 .0) (s .1 .1 .0) (s .1 .1 .1 .0) (s .1 .1 .1 .1 .0)
     (s .1 .1 .1 .1 .1 .0)
     (c .before .before .before .before .choose .ensures) (c .before .before .before .choose2 .ensures)
-    (c .before .before .choose3 .ensures) _ (c .lose .ensures)
+    (c .before .before .choose3 .ensures) _ _ (c .begin .ensures)
 
 pub right-spec : {M : Type 1} → statement M
 right-spec =
@@ -60,5 +58,5 @@ right-spec =
     choose-requires
     choose-requires-2
     choose-requires-3
-    lose-requires
+    begin-requires
     returns)

@@ -1,6 +1,6 @@
 -- `checker::pieces::up` meets its contract: the upper edge of a point.
 use native.Mathlib.Omega.{arith}
-use Rattle.checker.proofs.pieces.Step.{small-right, up-asked, up-given}
+use Rattle.checker.proofs.pieces.Step.{small-right, net-small, up-given}
 use borrow.Author.Needs.{needs}
 use Rattle.checker.proofs.pieces.up.Statement.{statement}
 use Rattle.checker.proofs.pieces.up.Tie as tie
@@ -26,20 +26,19 @@ choose-requires c κs = search needs
 choose-requires-2 : tie.Need-choose-requires-2
 choose-requires-2 c κs = search needs
 
-lose-requires : tie.Need-lose-requires
-lose-requires c κs =
+begin-requires : tie.Need-begin-requires
+begin-requires c κs =
     let s = c .before .before .before .before .pre in
-    up-asked _ _ _ _ (s .0) _ (s .1 .0) _ _ _ _ _ _ _ _ (s .1 .1 .1 .1 .1) (s .1 .1 .0) (s .1 .1 .1 .0) (s .1 .1 .1 .1 .0)
-    (c .before .before .choose .ensures) (c .before .choose2 .ensures)
+    (net-small _ _ _ _ (s .0) _ _ (s .1 .1 .1 .1 .0), s .1 .1 .1 .1 .1 .1)
 
 returns : tie.Need-returns
 returns c =
     let s = c .before .before .before .before .before .pre in
-    up-given _ _ _ _ (s .0) _ (s .1 .0) _ _ _ _ _ _ _ _ (s .1 .1 .1 .1 .1) (s .1 .1 .0) (s .1 .1 .1 .0) (s .1 .1 .1 .1 .0)
+    up-given _ _ _ _ (s .0) _ (s .1 .0) _ _ _ _ _ _ _ (s .1 .1 .1 .1 .1 .0) (s .1 .1 .0) (s .1 .1 .1 .0) (s .1 .1 .1 .1 .0)
     (c .before .before .before .choose .ensures)
-    (c .before .before .choose2 .ensures) _ (c .lose .ensures)
+    (c .before .before .choose2 .ensures) _ _ (c .begin .ensures)
 
 pub up-spec : {M : Type 1} → statement M
 up-spec =
     tie.close
-    (tie.spec add-u add-u-2 cast-u choose-requires choose-requires-2 lose-requires returns)
+    (tie.spec add-u add-u-2 cast-u choose-requires choose-requires-2 begin-requires returns)

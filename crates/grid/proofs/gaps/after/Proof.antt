@@ -1,20 +1,21 @@
--- `grid::gaps::after` meets its contract: the nets opened and closed by the two pins, of what its callees ensure. Assumes nothing.
+-- `grid::gaps::after` meets its contract: the nets of the two pins that start and end in the column, of what its callees ensure. Assumes nothing.
 use mathlib.Core.Path.{_≡_, ap₂, _∙_}
+use lib.Dec.{eqb}
 use lib.ListN.{getD}
-use Rattle.grid.specs.Working.{ofBoth, openedBy, closedBy}
-use Rattle.grid.proofs.OpenNets.{opens-le, closes-le, opened-le}
+use Rattle.grid.specs.Working.{ofBoth, netsOn}
+use Rattle.grid.proofs.Tests.{bit-le}
+use Rattle.grid.proofs.OpenNets.{on-le}
 use native.Mathlib.Omega.{arith}
 use borrow.Author.Needs.{needs}
 use Rattle.grid.proofs.gaps.after.Statement.{statement}
 use Rattle.grid.proofs.gaps.after.Tie as tie
 
-opened : (c : tie.After-of-both2) → c .before .before .before .of-both .result ≡ openedBy (c .before .before .before .before .before .before .before .before .before .before .before .before .args .first .now) (c .before .before .before .before .before .before .before .before .before .before .before .before .args .last .now) (c .before .before .before .before .before .before .before .before .before .before .before .before .args .c) (c .before .before .before .before .before .before .before .before .before .before .before .before .args .p) (c .before .before .before .before .before .before .before .before .before .before .before .before .args .q)
-opened c =
-    c .before .before .before .of-both .ensures
-    ∙ ap₂ (ofBoth (c .before .before .before .before .before .before .before .before .before .before .before .before .args .p) (c .before .before .before .before .before .before .before .before .before .before .before .before .args .q)) (c .before .before .before .before .before .opening .ensures) (c .before .before .before .before .opening2 .ensures)
+-- the nets that start in column c, and those that end there
+started : (c : tie.After-of-both2) → c .before .before .before .of-both .result ≡ netsOn (c .before .before .before .before .before .before .before .before .before .before .before .before .args .first .now) (c .before .before .before .before .before .before .before .before .before .before .before .before .args .c) (c .before .before .before .before .before .before .before .before .before .before .before .before .args .p) (c .before .before .before .before .before .before .before .before .before .before .before .before .args .q)
+started c = c .before .before .before .of-both .ensures ∙ ap₂ (ofBoth (c .before .before .before .before .before .before .before .before .before .before .before .before .args .p) (c .before .before .before .before .before .before .before .before .before .before .before .before .args .q)) (c .before .before .before .before .before .falls-on .ensures) (c .before .before .before .before .falls-on2 .ensures)
 
-closed : (c : tie.After-of-both2) → c .of-both2 .result ≡ closedBy (c .before .before .before .before .before .before .before .before .before .before .before .before .args .first .now) (c .before .before .before .before .before .before .before .before .before .before .before .before .args .last .now) (c .before .before .before .before .before .before .before .before .before .before .before .before .args .c) (c .before .before .before .before .before .before .before .before .before .before .before .before .args .p) (c .before .before .before .before .before .before .before .before .before .before .before .before .args .q)
-closed c = c .of-both2 .ensures ∙ ap₂ (ofBoth (c .before .before .before .before .before .before .before .before .before .before .before .before .args .p) (c .before .before .before .before .before .before .before .before .before .before .before .before .args .q)) (c .before .before .closing .ensures) (c .before .closing2 .ensures)
+ended : (c : tie.After-of-both2) → c .of-both2 .result ≡ netsOn (c .before .before .before .before .before .before .before .before .before .before .before .before .args .last .now) (c .before .before .before .before .before .before .before .before .before .before .before .before .args .c) (c .before .before .before .before .before .before .before .before .before .before .before .before .args .p) (c .before .before .before .before .before .before .before .before .before .before .before .before .args .q)
+ended c = c .of-both2 .ensures ∙ ap₂ (ofBoth (c .before .before .before .before .before .before .before .before .before .before .before .before .args .p) (c .before .before .before .before .before .before .before .before .before .before .before .before .args .q)) (c .before .before .falls-on3 .ensures) (c .before .falls-on4 .ensures)
 
 mul-f : tie.Need-mul-f
 mul-f c = search needs
@@ -40,42 +41,38 @@ mul-m c = search needs
 shared-slice-read-m : tie.Need-shared-slice-read-m
 shared-slice-read-m c = search needs
 
-opening-requires : tie.Need-opening-requires
-opening-requires c κs = search needs
+falls-on-requires : tie.Need-falls-on-requires
+falls-on-requires c κs = search needs
 
-opening-requires-2 : tie.Need-opening-requires-2
-opening-requires-2 c κs = search needs
+falls-on-requires-2 : tie.Need-falls-on-requires-2
+falls-on-requires-2 c κs = search needs
 
 of-both-requires : tie.Need-of-both-requires
-of-both-requires c κs =
-    let a = c .before .before .before .before .before .before .before .before .args in (
-      omega (arith, c .before .opening .ensures, opens-le (getD (a .first .now) (a .p) 0) (getD (a .last .now) (a .p) 0) (a .c)),
-      omega (arith, c .opening2 .ensures, opens-le (getD (a .first .now) (a .q) 0) (getD (a .last .now) (a .q) 0) (a .c)),
-    )
+of-both-requires c κs = (
+  omega (arith, c .before .falls-on .ensures, bit-le (eqb (getD (c .before .before .before .before .before .before .before .before .args .first .now) (c .before .before .before .before .before .before .before .before .args .p) 0) (c .before .before .before .before .before .before .before .before .args .c)) 1 (λ e. omega arith)),
+  omega (arith, c .falls-on2 .ensures, bit-le (eqb (getD (c .before .before .before .before .before .before .before .before .args .first .now) (c .before .before .before .before .before .before .before .before .args .q) 0) (c .before .before .before .before .before .before .before .before .args .c)) 1 (λ e. omega arith)),
+)
 
-closing-requires : tie.Need-closing-requires
-closing-requires c κs = search needs
+falls-on-requires-3 : tie.Need-falls-on-requires-3
+falls-on-requires-3 c κs = search needs
 
-closing-requires-2 : tie.Need-closing-requires-2
-closing-requires-2 c κs = search needs
+falls-on-requires-4 : tie.Need-falls-on-requires-4
+falls-on-requires-4 c κs = search needs
 
 of-both-requires-2 : tie.Need-of-both-requires-2
-of-both-requires-2 c κs =
-    let a = c .before .before .before .before .before .before .before .before .before .before .before .args in (
-      omega (arith, c .before .closing .ensures, closes-le (getD (a .first .now) (a .p) 0) (getD (a .last .now) (a .p) 0) (a .c)),
-      omega (arith, c .closing2 .ensures, closes-le (getD (a .first .now) (a .q) 0) (getD (a .last .now) (a .q) 0) (a .c)),
-    )
+of-both-requires-2 c κs = (
+  omega (arith, c .before .falls-on3 .ensures, bit-le (eqb (getD (c .before .before .before .before .before .before .before .before .before .before .before .args .last .now) (c .before .before .before .before .before .before .before .before .before .before .before .args .p) 0) (c .before .before .before .before .before .before .before .before .before .before .before .args .c)) 1 (λ e. omega arith)),
+  omega (arith, c .falls-on4 .ensures, bit-le (eqb (getD (c .before .before .before .before .before .before .before .before .before .before .before .args .last .now) (c .before .before .before .before .before .before .before .before .before .before .before .args .q) 0) (c .before .before .before .before .before .before .before .before .before .before .before .args .c)) 1 (λ e. omega arith)),
+)
 
 add-result : tie.Need-add-result
-add-result c =
-    let a = c .before .before .before .before .before .before .before .before .before .before .before .before .args in
-    omega (arith, opened c, opened-le (a .first .now) (a .last .now) (a .c) (a .p) (a .q), c .before .before .before .before .before .before .before .before .before .before .before .before .pre .1 .0)
+add-result c = omega (arith, started c, on-le (c .before .before .before .before .before .before .before .before .before .before .before .before .args .first .now) (c .before .before .before .before .before .before .before .before .before .before .before .before .args .c) (c .before .before .before .before .before .before .before .before .before .before .before .before .args .p) (c .before .before .before .before .before .before .before .before .before .before .before .before .args .q), c .before .before .before .before .before .before .before .before .before .before .before .before .pre .1 .0)
 
 sub-result : tie.Need-sub-result
-sub-result c = omega (arith, opened c, closed c, c .before .before .before .before .before .before .before .before .before .before .before .before .pre .1 .1)
+sub-result c = omega (arith, started c, ended c, c .before .before .before .before .before .before .before .before .before .before .before .before .pre .1 .1)
 
 returns : tie.Need-returns
-returns c = omega (arith, opened c, closed c)
+returns c = omega (arith, started c, ended c)
 
 pub after-spec : {M : Type 1} → statement M
-after-spec = tie.close (tie.spec mul-f shared-slice-read-f mul-l shared-slice-read-l mul-g shared-slice-read-g mul-m shared-slice-read-m opening-requires opening-requires-2 of-both-requires closing-requires closing-requires-2 of-both-requires-2 add-result sub-result returns)
+after-spec = tie.close (tie.spec mul-f shared-slice-read-f mul-l shared-slice-read-l mul-g shared-slice-read-g mul-m shared-slice-read-m falls-on-requires falls-on-requires-2 of-both-requires falls-on-requires-3 falls-on-requires-4 of-both-requires-2 add-result sub-result returns)

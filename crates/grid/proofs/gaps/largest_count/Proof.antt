@@ -5,7 +5,7 @@ use lib.ListN.{length}
 use native.Mathlib.Numerals.{add-one}
 use Rattle.grid.specs.Channel.{openAt, largest, density}
 use Rattle.grid.specs.Nets.{firstColumn, lastColumn}
-use Rattle.grid.specs.Working.{openedBy, closedBy}
+use Rattle.grid.specs.Working.{netsOn}
 use Rattle.grid.proofs.Scanning.{none-over}
 use Rattle.grid.proofs.Tables.{table-length}
 use Rattle.grid.proofs.OpenNets.{none-open, open-le, largest-none, largest-more, open-turn}
@@ -21,8 +21,8 @@ abbrev μ-loop : tie.MeasureT-loop
 μ-loop top bottom first last here₀ most₀ i₀ c₀ here most i c = length top - i
 
 turned : (c : tie.After-wide2 Inv-loop μ-loop)
-    → openAt (c .before .before .before .before .before .before .before .before .before .before .args .top .now) (c .before .before .before .before .before .before .before .before .before .before .args .bottom .now) (c .before .before .before .before .before .loop .i + 1) + closedBy (c .before .before .before .before .before .before .before .before .before .before .args .first .now) (c .before .before .before .before .before .before .before .before .before .before .args .last .now) (c .before .before .before .before .before .loop .c) (c .before .before .wide .result) (c .wide2 .result)
-    ≡ c .before .before .before .before .before .loop .here + openedBy (c .before .before .before .before .before .before .before .before .before .before .args .first .now) (c .before .before .before .before .before .before .before .before .before .before .args .last .now) (c .before .before .before .before .before .loop .c) (c .before .before .wide .result) (c .wide2 .result)
+    → openAt (c .before .before .before .before .before .before .before .before .before .before .args .top .now) (c .before .before .before .before .before .before .before .before .before .before .args .bottom .now) (c .before .before .before .before .before .loop .i + 1) + netsOn (c .before .before .before .before .before .before .before .before .before .before .args .last .now) (c .before .before .before .before .before .loop .c) (c .before .before .wide .result) (c .wide2 .result)
+    ≡ c .before .before .before .before .before .loop .here + netsOn (c .before .before .before .before .before .before .before .before .before .before .args .first .now) (c .before .before .before .before .before .loop .c) (c .before .before .wide .result) (c .wide2 .result)
 turned c =
     let a = c .before .before .before .before .before .before .before .before .before .before .args in
     let h = c .before .before .before .before .before .loop in
