@@ -74,14 +74,14 @@ stretchedBy last number c v = not (eqb v 0) && (not (ltb c (getD last v 0)) && l
 unfoldable pub wideBy : (last number : List ℕ) (c v : ℕ) → Bool
 wideBy last number c v = not (eqb v 0) && (ltb c (getD last v 0) && ltb 2 (getD number v 0))
 
--- the sets s of stretched nets and w of wide ones are right of net v at gap c
-pub record Right (last number : List ℕ) (c : ℕ) (s w : List ℕ) (v : ℕ) : Type 0 where
+-- the sets s of stretched nets and w of wide ones are right of net v at gap c; w is kept only where not every net has two pins
+pub record Right (last number : List ℕ) (c : ℕ) (s w : List ℕ) (pairs : Bool) (v : ℕ) : Type 0 where
   pub stretched : member s v ≡ stretchedBy last number c v
-  pub wide : member w v ≡ wideBy last number c v
+  pub wide : pairs ≡ false → member w v ≡ wideBy last number c v
 
 -- and of all nets
-abbrev pub Sorted : (last number : List ℕ) (c : ℕ) (s w : List ℕ) → Type 0
-Sorted last number c s w = (v : ℕ) → Right last number c s w v
+abbrev pub Sorted : (last number : List ℕ) (c : ℕ) (s w : List ℕ) (pairs : Bool) → Type 0
+Sorted last number c s w pairs = (v : ℕ) → Right last number c s w pairs v
 
 -- r is the lowest member of s from a up, 0 where there is none
 pub record Next (s : List ℕ) (a r : ℕ) : Type 0 where
@@ -117,6 +117,10 @@ pub record Flat (x : Action) : Type 0 where
 -- then a column's vertical edges are three runs: net q below row a, m from there to row b, p above
 abbrev pub runs : (q a m b p k : ℕ) → ℕ
 runs q a m b p k = pick (ltb k a) q (pick (ltb k b) m p)
+
+-- and two where the middle one is empty
+abbrev pub twoRuns : (q a p k : ℕ) → ℕ
+twoRuns q a p k = pick (ltb k a) q p
 
 -- each column's action gives free tracks
 abbrev pub Sound : List ℕ → List ℕ → Type 0

@@ -32,7 +32,7 @@ fn column_at(
     requires { ⌜ c < length (now top) ⌝ }
     requires { ⌜ Ready (now top) (now bottom) (now first) (now last) t pairs ⌝ }
     requires { ⌜ Holds t (tracksOf t (now tracks)) (now tracks) (now free) (now low) (now high) (now many) ⌝ }
-    requires { ⌜ Sorted (now last) (now many) c (now stretched) (now wide) ⌝ }
+    requires { ⌜ Sorted (now last) (now many) c (now stretched) (now wide) pairs ⌝ }
     ensures { λ r. ⌜ r ≡ action (now (top .entry)) (now (bottom .entry)) c (tracksOf t (now (tracks .entry))) ⌝ }
 {
     let k = c as u16;
@@ -68,10 +68,10 @@ pub fn sweep_columns(
     requires { ⌜ Ready (now top) (now bottom) (now first) (now last) t pairs ⌝ }
     requires { ⌜ Sound (now top) (now bottom) ⌝ }
     requires { ⌜ Holds t (gap (now top) (now bottom) 0) (now tracks) (now free) (now low) (now high) (now many) ⌝ }
-    requires { ⌜ Sorted (now last) (now many) 0 (now stretched) (now wide) ⌝ }
+    requires { ⌜ Sorted (now last) (now many) 0 (now stretched) (now wide) pairs ⌝ }
     requires { ⌜ length (now top) * (2 * t + 1) ≤ length (now layout) ⌝ }
     ensures { λ _. ⌜ Holds t (gap (now (top .entry)) (now (bottom .entry)) (length (now (top .entry)))) (now (tracks .exit)) (now (free .exit)) (now (low .exit)) (now (high .exit)) (now (many .exit)) ⌝ }
-    ensures { λ _. ⌜ Sorted (now (last .entry)) (now (many .exit)) (length (now (top .entry))) (now (stretched .exit)) (now (wide .exit)) ⌝ }
+    ensures { λ _. ⌜ Sorted (now (last .entry)) (now (many .exit)) (length (now (top .entry))) (now (stretched .exit)) (now (wide .exit)) pairs ⌝ }
     ensures { λ _. ⌜ now (layout .exit) ≡ drawn (now (top .entry)) (now (bottom .entry)) (length (now (top .entry))) ++ drop (length (now (top .entry)) * (2 * t + 1)) (now (layout .entry)) ⌝ }
     ensures { λ _. ⌜ length (drawn (now (top .entry)) (now (bottom .entry)) (length (now (top .entry)))) ≡ length (now (top .entry)) * (2 * t + 1) ⌝ }
 {
@@ -98,7 +98,17 @@ pub fn sweep_columns(
         );
         index::apply(tracks, free, low, high, many, t, x);
         c += 1;
-        nets::sort_three(last, many, stretched, wide, c, x.ended, top[i], bottom[i]);
+        nets::sort_three(
+            last,
+            many,
+            stretched,
+            wide,
+            c,
+            x.ended,
+            top[i],
+            bottom[i],
+            pairs,
+        );
         writer::write_column(&mut layout[at..at + each], tracks, t, x);
         at += each;
         i += 1;

@@ -133,7 +133,7 @@ fn is_wide(last: u16, many: u16, c: u16) -> bool
     false
 }
 
-// Makes the sets of stretched and of wide nets right of net v at gap c.
+// Makes the sets of stretched and of wide nets right of net v at gap c; where each net has two pins the wide ones are not kept.
 fn sort_net(
     last: &[u16; 257],
     many: &[u16; 257],
@@ -141,9 +141,10 @@ fn sort_net(
     wide: &mut [u64; 8],
     c: u16,
     v: u16,
+    pairs: bool,
 )
-    requires { ⌜ (v ≤ 256) × Right (now last) (now many) c (now stretched) (now wide) 0 ⌝ }
-    ensures { λ _. ⌜ ((j : ℕ) → (j ≡ v) ⊎ Right (now (last .entry)) (now (many .entry)) c (now (stretched .entry)) (now (wide .entry)) j → Right (now (last .entry)) (now (many .entry)) c (now (stretched .exit)) (now (wide .exit)) j) ⌝ }
+    requires { ⌜ (v ≤ 256) × Right (now last) (now many) c (now stretched) (now wide) pairs 0 ⌝ }
+    ensures { λ _. ⌜ ((j : ℕ) → (j ≡ v) ⊎ Right (now (last .entry)) (now (many .entry)) c (now (stretched .entry)) (now (wide .entry)) pairs j → Right (now (last .entry)) (now (many .entry)) c (now (stretched .exit)) (now (wide .exit)) pairs j) ⌝ }
 {
     if v == 0 {
         return;
@@ -152,6 +153,9 @@ fn sort_net(
     let e = last[i];
     let n = many[i];
     sets::put(stretched, i, is_stretched(e, n, c));
+    if pairs {
+        return;
+    }
     sets::put(wide, i, is_wide(e, n, c));
 }
 
@@ -165,11 +169,12 @@ pub fn sort_three(
     u: u16,
     v: u16,
     w: u16,
+    pairs: bool,
 )
-    requires { ⌜ (u ≤ 256) × (v ≤ 256) × (w ≤ 256) × Right (now last) (now many) c (now stretched) (now wide) 0 ⌝ }
-    ensures { λ _. ⌜ ((j : ℕ) → (j ≡ u) ⊎ ((j ≡ v) ⊎ ((j ≡ w) ⊎ Right (now (last .entry)) (now (many .entry)) c (now (stretched .entry)) (now (wide .entry)) j)) → Right (now (last .entry)) (now (many .entry)) c (now (stretched .exit)) (now (wide .exit)) j) ⌝ }
+    requires { ⌜ (u ≤ 256) × (v ≤ 256) × (w ≤ 256) × Right (now last) (now many) c (now stretched) (now wide) pairs 0 ⌝ }
+    ensures { λ _. ⌜ ((j : ℕ) → (j ≡ u) ⊎ ((j ≡ v) ⊎ ((j ≡ w) ⊎ Right (now (last .entry)) (now (many .entry)) c (now (stretched .entry)) (now (wide .entry)) pairs j)) → Right (now (last .entry)) (now (many .entry)) c (now (stretched .exit)) (now (wide .exit)) pairs j) ⌝ }
 {
-    sort_net(last, many, stretched, wide, c, u);
-    sort_net(last, many, stretched, wide, c, v);
-    sort_net(last, many, stretched, wide, c, w);
+    sort_net(last, many, stretched, wide, c, u, pairs);
+    sort_net(last, many, stretched, wide, c, v, pairs);
+    sort_net(last, many, stretched, wide, c, w, pairs);
 }

@@ -5,8 +5,8 @@ ghost use mathlib.Core.Path.{_≡_};
 ghost use Prim.Native.Nat.{_+_, _*_, _≤_};
 ghost use lib.ListN.{length, take, drop};
 ghost use mathlib.Core.List.{_++_};
-ghost use Rattle.sweep.specs.Tracks.{verticals};
-ghost use Rattle.sweep.specs.State.{tracksOf, Flat, runs};
+ghost use Rattle.sweep.specs.Tracks.{listed, verticals};
+ghost use Rattle.sweep.specs.State.{tracksOf, Flat, runs, twoRuns};
 
 // The vertical edge between the rows k and k + 1: of net q below row a, of net m from there to row b, of net p above.
 fn vertical_at(k: u16, q: u16, a: u16, m: u16, b: u16, p: u16) -> u16
@@ -18,20 +18,53 @@ fn vertical_at(k: u16, q: u16, a: u16, m: u16, b: u16, p: u16) -> u16
     if k < b { m } else { p }
 }
 
-// Writes the vertical edges of a column.
+// The same edge where there are two nets: q below row a, p above.
+fn vertical_of_two(k: u16, q: u16, a: u16, p: u16) -> u16
+    ensures { λ r. ⌜ r ≡ twoRuns q a p k ⌝ }
+{
+    if k < a { q } else { p }
+}
+
+// Writes the vertical edges of a column with two nets.
+fn write_two(part: &mut [u16], t: usize, q: u16, a: u16, p: u16)
+    requires { ⌜ (t ≤ 511) × (length (now part) ≡ 2 * t + 1) ⌝ }
+    ensures { λ _. ⌜ now (part .exit) ≡ listed (t + 1) 0 (twoRuns q a p) ++ drop (t + 1) (now (part .entry)) ⌝ }
+{
+    let mut i = 0;
+    let mut k = 0u16;
+    while i <= t {
+        part[i] = vertical_of_two(k, q, a, p);
+        i += 1;
+        k += 1;
+    }
+}
+
+// Writes those of a column with three.
+fn write_three(part: &mut [u16], t: usize, q: u16, a: u16, m: u16, b: u16, p: u16)
+    requires { ⌜ (t ≤ 511) × (length (now part) ≡ 2 * t + 1) ⌝ }
+    ensures { λ _. ⌜ now (part .exit) ≡ listed (t + 1) 0 (runs q a m b p) ++ drop (t + 1) (now (part .entry)) ⌝ }
+{
+    let mut i = 0;
+    let mut k = 0u16;
+    while i <= t {
+        part[i] = vertical_at(k, q, a, m, b, p);
+        i += 1;
+        k += 1;
+    }
+}
+
+// Writes the vertical edges of a column; the middle net has none where a and b are the same row.
 fn write_verticals(part: &mut [u16], t: usize, x: Action)
     requires { ⌜ (t ≤ 511) × (length (now part) ≡ 2 * t + 1) × Flat x ⌝ }
     ensures { λ _. ⌜ now (part .exit) ≡ verticals t x ++ drop (t + 1) (now (part .entry)) ⌝ }
 {
     let a = index::greater_of(x.low, x.start);
     let b = index::greater_of(x.stop, x.high);
-    let mut i = 0;
-    let mut k = 0u16;
-    while i <= t {
-        part[i] = vertical_at(k, x.bottom, a, x.middle, b, x.top);
-        i += 1;
-        k += 1;
+    if a == b {
+        write_two(part, t, x.bottom, a, x.top);
+        return;
     }
+    write_three(part, t, x.bottom, a, x.middle, b, x.top);
 }
 
 // Copies the tracks that leave a column behind its vertical edges.

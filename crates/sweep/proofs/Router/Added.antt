@@ -20,7 +20,7 @@ use Rattle.sweep.specs.Drawing.{gap, drawn, rest, joining, remains, adde
 use Rattle.sweep.specs.State.{tracksOf, Holds, Next, Remaining, joined}
 use Rattle.sweep.proofs.Solved.Added as solved
 use Rattle.sweep.proofs.Router.Strands.{below-or, clear-absent}
-use Rattle.sweep.proofs.Router.Columns.{length-verticals}
+use Rattle.sweep.proofs.Solved.Sound.{verticals-length}
 use Rattle.sweep.proofs.Router.Arrays.{length-tracks}
 use Rattle.sweep.proofs.Router.Lowest.{On, many-on}
 use Rattle.sweep.proofs.Router.Sweeps.{nonzero}
@@ -130,7 +130,7 @@ module _ {t n : ℕ} {g l₀ : List ℕ} where
         let now : l′ ≡ (P ++ D) ++ (C ++ Q) = cc in
         let lenC : length C ≡ 2 * t + 1 =
         length-append (verticals t (joining (rest g k) (suc k))) (rest g (suc k))
-        ∙ omega (arith, length-verticals t (joining (rest g k) (suc k)), ap length (holds′ .is), length-tracks t a′ (holds′ .fits) (holds′ .sized)) in
+        ∙ omega (arith, verticals-length t (joining (rest g k) (suc k)), ap length (holds′ .is), length-tracks t a′ (holds′ .fits) (holds′ .sized)) in
         record {
           wide = omega (arith, u .wide);
           holds = holds′;

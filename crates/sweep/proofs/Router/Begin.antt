@@ -56,13 +56,13 @@ begun top bottom t a f l h n et b ea fr el eh en =
     })
 
 -- the sets hold no net
-pub none-sorted : (last n s w : List ℕ) → n ≡ noNets → ((k : ℕ) → member s k ≡ false) → ((k : ℕ) → member w k ≡ false) → Sorted last n 0 s w
+pub none-sorted : (last n s w : List ℕ) (pairs : Bool) → n ≡ noNets → ((k : ℕ) → member s k ≡ false) → ((k : ℕ) → member w k ≡ false) → Sorted last n 0 s w pairs
 unfolding stretchedBy wideBy noNets
-none-sorted last n s w en hs hw v =
+none-sorted last n s w pairs en hs hw v =
     let z : getD n v 0 ≡ 0 = ap (λ (l : List ℕ). getD l v 0) en ∙ zeros 257 v in
     record {
       stretched = hs v ∙ sym (rw z (ap (λ (y : Bool). not (eqb v 0) && y) (and-none (not (ltb 0 (getD last v 0))) false refl) ∙ and-none (not (eqb v 0)) false refl));
-      wide = hw v ∙ sym (rw z (ap (λ (y : Bool). not (eqb v 0) && y) (and-none (ltb 0 (getD last v 0)) false refl) ∙ and-none (not (eqb v 0)) false refl));
+      wide = λ _. hw v ∙ sym (rw z (ap (λ (y : Bool). not (eqb v 0) && y) (and-none (ltb 0 (getD last v 0)) false refl) ∙ and-none (not (eqb v 0)) false refl));
     }
 
 -- after column n no net has pins
@@ -71,10 +71,10 @@ unfolding Drawing.later
 none-later top bottom v e = rw (no-right top bottom v (omega arith)) (and-none (not (eqb v 0)) false refl)
 
 -- and the stretched nets are those with strands
-pub all-remain : (top bottom first last : List ℕ) {t : ℕ} {a f l h n : List ℕ} (s w : List ℕ) → Spans top bottom first last → length bottom ≡ length top → Holds t (tracksOf t a) a f l h n
-    → Sorted last n (length top) s w → Remaining (tracksOf t a) s
+pub all-remain : (top bottom first last : List ℕ) {t : ℕ} {a f l h n : List ℕ} (s w : List ℕ) (pairs : Bool) → Spans top bottom first last → length bottom ≡ length top → Holds t (tracksOf t a) a f l h n
+    → Sorted last n (length top) s w pairs → Remaining (tracksOf t a) s
 unfolding stretchedBy remains
-all-remain top bottom first last {t} {a} {f} {l} {h} {n} s w sp e hh so v =
+all-remain top bottom first last {t} {a} {f} {l} {h} {n} s w pairs sp e hh so v =
     so v .stretched ∙ ⊎-elim (λ (b : v < 257). small v (omega arith)) (λ (b : 257 ≤ v). ap (λ (y : Bool). not (eqb v 0) && y) (large v b)) (below-or v 257)
   where
     small : (v : ℕ) → v ≤ 256 → (not (eqb v 0) && (not (ltb (length top) (getD last v 0)) && ltb 0 (getD n v 0))) ≡ (not (eqb v 0) && ltb 0 (many v (tracksOf t a)))

@@ -1,38 +1,21 @@
 -- A column's entries, as the writer fills them in.
-use Prim.Native.Nat.{ℕ, zero, suc, _+_, _*_, _≤_, _<_, max}
+use Prim.Native.Nat.{ℕ, _+_, _*_, _≤_, _<_, max}
 use mathlib.Core.Path.{_≡_, refl, sym, ap, _∙_}
 use mathlib.Core.List.{List, _++_, append-nil}
 use mathlib.Core.Logic.{⊎-elim}
 use lib.Dec.{ltb}
 use borrow.Author.Tests.{lt-ltb, le-ltb}
 use Rattle.grid.specs.Channel.{pick}
-use Rattle.sweep.specs.State.{Flat, runs}
+use Rattle.sweep.specs.State.{Flat, runs, twoRuns}
 use Rattle.sweep.proofs.Router.Strands.{below-or}
-use Rattle.sweep.proofs.Solved.Sound.{length-listed}
+use Rattle.sweep.proofs.Solved.Sound.{getD-listed, length-listed, verticals-length}
 use native.Mathlib.Nat.{zero-add}
 use native.Mathlib.Numerals.{add-one}
 use native.Mathlib.Omega.{arith}
-use lib.ListN.{length, take, drop, getD, set, length-drop, drop-of-length-le}
-use lib.Seq.{paste, paste-suc, getD-drop, take-all, take-at}
+use lib.ListN.{length, length-set, take, drop, getD, set, length-drop, drop-of-length-le}
+use lib.Seq.{paste, paste-zero, paste-suc, getD-drop, take-all, take-at}
 use Rattle.sweep.specs.declared.Action.{Action}
 use Rattle.sweep.specs.Tracks.{vertical, verticals, listed}
-
--- the value at an index
-pub getD-listed : (k y : ℕ) (f : ℕ → ℕ) (j : ℕ) → j < k → getD (listed k y f) j 0 ≡ f (y + j)
-unfolding listed
-getD-listed zero y f j h = absurd (omega arith)
-getD-listed (suc k) y f zero h = ap f (omega arith)
-getD-listed (suc k) y f (suc j) h = getD-listed k (suc y) f j (omega arith) ∙ ap f (omega arith)
-
--- a column has t + 1 vertical edges
-pub length-verticals : (t : ℕ) (x : Action) → length (verticals t x) ≡ suc t
-unfolding verticals
-length-verticals t x = length-listed (suc t) 0 (vertical x)
-
--- the edge at an index
-pub vertical-of : (t : ℕ) (x : Action) (i : ℕ) → i ≤ t → getD (verticals t x) i 0 ≡ vertical x i
-unfolding verticals
-vertical-of t x i h = getD-listed (suc t) 0 (vertical x) i (omega arith) ∙ ap (vertical x) (zero-add i)
 
 -- three runs, where the action is flat
 pub flat-runs : (x : Action) (a b k : ℕ) → Flat x → a ≡ max (x .low) (x .start) → b ≡ max (x .stop) (x .high) → runs (x .bottom) a (x .middle) b (x .top) k ≡ vertical x k
@@ -57,17 +40,38 @@ flat-runs x a b k f ea eb = ⊎-elim in-low past-low (below-or k (x .low))
         ⊎-elim (λ (z : x .bottom ≡ 0). rw (le-ltb k (x .low) h, lt-ltb k (x .start) g, lt-ltb k a (omega arith)) z) (λ (z : x .start ≤ x .low). absurd (omega arith)) (f .lower))
         (λ (g : x .start ≤ k). rw (le-ltb k (x .low) h, le-ltb k (x .start) g, le-ltb k a (omega arith)) (above h g)) (below-or k (x .start))
 
--- one vertical more
-pub written : (d s : List ℕ) (t : ℕ) (x : Action) (i k v : ℕ) → s ≡ paste d 0 (verticals t x) i → k ≡ i → v ≡ vertical x k → i ≤ t → i < length d
-    → set s i v ≡ paste d 0 (verticals t x) (i + 1)
-written d s t x i k v e f g h l =
-    let u : v ≡ getD (verticals t x) i 0 = g ∙ ap (vertical x) f ∙ sym (vertical-of t x i h) in
-    let m : i < length (verticals t x) = omega (arith, length-verticals t x) in
-    cc (paste-suc d 0 (verticals t x) i 0 (omega arith) m, zero-add i, add-one i)
+-- the middle run is empty
+pub two-runs : (q a m b p k : ℕ) → a ≡ b → runs q a m b p k ≡ twoRuns q a p k
+two-runs q a m b p k e = ⊎-elim (λ (h : k < a). rw (lt-ltb k a h) refl) (λ (h : a ≤ k). rw (le-ltb k a h, le-ltb k b (omega arith)) refl) (below-or k a)
 
--- all verticals
-pub written-all : (d s : List ℕ) (t : ℕ) (x : Action) (i : ℕ) → s ≡ paste d 0 (verticals t x) i → i ≡ t + 1 → s ≡ verticals t x ++ drop (t + 1) d
-written-all d s t x i e f = cc (take-all (t + 1) (verticals t x) (omega (arith, length-verticals t x)), zero-add (t + 1))
+-- s holds f k at each index k below i, and what d holds from there on; the entries to write are n
+abbrev pub Written : (f : ℕ → ℕ) (d : List ℕ) (n i k : ℕ) (s : List ℕ) → Type 0
+Written f d n i k s = (i ≤ n) × (k ≡ i) × (s ≡ paste d 0 (listed n 0 f) i) × (length s ≡ length d)
+
+-- no entry
+pub written-none : (f : ℕ → ℕ) (d : List ℕ) (n : ℕ) → Written f d n 0 0 d
+written-none f d n = (omega arith, refl, paste-zero d 0 (listed n 0 f), refl)
+
+-- one entry more
+pub written-next : (f : ℕ → ℕ) (d : List ℕ) (n i k : ℕ) (s : List ℕ) (v : ℕ) → Written f d n i k s → v ≡ f k → i < n → i < length d → Written f d n (i + 1) (k + 1) (set s i v)
+written-next f d n i k s v w e h l =
+    let g : v ≡ getD (listed n 0 f) i 0 = e ∙ ap f (w .1) ∙ sym (getD-listed n 0 i f h ∙ ap f (zero-add i)) in
+    let p = paste-suc d 0 (listed n 0 f) i 0 (omega arith) (omega (arith, length-listed n 0 f)) in
+    let u = w .2 in
+    (omega arith, omega arith, cc (p, zero-add i, add-one i), length-set s i v ∙ w .3)
+
+-- all entries
+pub written-all : (f : ℕ → ℕ) (d : List ℕ) (n i k : ℕ) (s : List ℕ) → Written f d n i k s → n ≤ i → s ≡ listed n 0 f ++ drop n d
+written-all f d n i k s w h =
+    let e : i ≡ n = omega arith in
+    let u = w .2 in
+    cc (take-all n (listed n 0 f) (omega (arith, length-listed n 0 f)), zero-add n)
+
+-- they are the verticals, where f k is the edge above row k
+pub verticals-by : (f : ℕ → ℕ) (d s : List ℕ) (t : ℕ) (x : Action) → ((k : ℕ) → f k ≡ vertical x k) → s ≡ listed (t + 1) 0 f ++ drop (t + 1) d → s ≡ verticals t x ++ drop (t + 1) d
+unfolding verticals
+verticals-by f d s t x h e =
+    e ∙ ap (λ (l : List ℕ). l ++ drop (t + 1) d) (λ i. listed (add-one t i) 0 (λ k. h k i))
 
 -- one track more
 pub copied : (d tr s : List ℕ) (t i : ℕ) → s ≡ paste d (t + 1) (drop 1 tr) i → t + 1 + i < length d → 1 + i < length tr
@@ -81,4 +85,4 @@ copied-all d tr s t i e f h =
 
 -- the verticals and the tracks are the column
 pub column-whole : (d e f tr : List ℕ) (t : ℕ) (x : Action) → e ≡ verticals t x ++ drop (t + 1) d → f ≡ take (t + 1) e ++ take t (drop 1 tr) → f ≡ verticals t x ++ take t (drop 1 tr)
-column-whole d e f tr t x p q = cc (take-at (verticals t x) (drop (t + 1) d) (t + 1) (length-verticals t x ∙ sym (add-one t)))
+column-whole d e f tr t x p q = cc (take-at (verticals t x) (drop (t + 1) d) (t + 1) (verticals-length t x))

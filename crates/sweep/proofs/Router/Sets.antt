@@ -120,39 +120,44 @@ module _ (t : ℕ) (a s : List ℕ) (l : t ≤ 511) (z : length a ≡ 512) (f : 
 
 -- ---- the sets of stretched and of wide nets
 
-module _ (last number : List ℕ) (c v : ℕ) (s w r u : List ℕ) where
-  module _ (n : v ≡ 0 → ⊥) (b : v ≤ 256) (p q : Bool) (x : Put s (v % 512) p r) (y : Put w (v % 512) q u)
-      (ep : p ≡ (not (ltb c (getD last v 0)) && ltb 0 (getD number v 0))) (eq : q ≡ (ltb c (getD last v 0) && ltb 2 (getD number v 0))) where
+-- what is put, by an equal test
+pub put-by : {s r : List ℕ} {k : ℕ} {p q : Bool} → p ≡ q → Put s k p r → Put s k q r
+put-by {s} {r} {k} e x = subst (λ (b : Bool). Put s k b r) e x
+
+module _ (last number : List ℕ) (c v : ℕ) (s w r u : List ℕ) (pairs : Bool) where
+  module _ (n : v ≡ 0 → ⊥) (b : v ≤ 256) (x : Put s (v % 512) (not (ltb c (getD last v 0)) && ltb 0 (getD number v 0)) r)
+      (y : pairs ≡ false → Put w (v % 512) (ltb c (getD last v 0) && ltb 2 (getD number v 0)) u) where
     -- the number of net v
     same : v % 512 ≡ v
     same = omega arith
 
     -- net v itself
-    put-own : Right last number c r u v
+    put-own : Right last number c r u pairs v
     unfolding stretchedBy wideBy
     put-own =
         record {
-          stretched = ap (member r) (sym same) ∙ x .same ∙ ep ∙ rw (ne-eqb v 0 n) refl;
-          wide = ap (member u) (sym same) ∙ y .same ∙ eq ∙ rw (ne-eqb v 0 n) refl;
+          stretched = ap (member r) (sym same) ∙ x .same ∙ rw (ne-eqb v 0 n) refl;
+          wide = λ e. ap (member u) (sym same) ∙ y e .same ∙ rw (ne-eqb v 0 n) refl;
         }
 
     -- the sets are put right of net v, and stay as they are of the others
-    pub put-right : (j : ℕ) → (j ≡ v) ⊎ Right last number c s w j → Right last number c r u j
+    pub put-right : (j : ℕ) → (j ≡ v) ⊎ Right last number c s w pairs j → Right last number c r u pairs j
     put-right j (inl e) = rw e put-own
     put-right j (inr h) = go (eqb j v) refl
       where
-        go : (k : Bool) → eqb j v ≡ k → Right last number c r u j
+        go : (k : Bool) → eqb j v ≡ k → Right last number c r u pairs j
         go true e = rw (eqb-true j v e) put-own
         go false e =
             record {
               stretched = x .other j (λ d. eqb-false j v e (d ∙ same)) ∙ h .stretched;
-              wide = y .other j (λ d. eqb-false j v e (d ∙ same)) ∙ h .wide;
+              wide = λ f. y f .other j (λ d. eqb-false j v e (d ∙ same)) ∙ h .wide f;
             }
 
 -- of no net there is nothing to put
-pub none-right : (last number : List ℕ) (c v : ℕ) (s w : List ℕ) → v ≡ 0 → Right last number c s w 0 → (j : ℕ) → (j ≡ v) ⊎ Right last number c s w j → Right last number c s w j
-none-right last number c v s w e z j (inl d) = rw (d, e) z
-none-right last number c v s w e z j (inr r) = r
+pub none-right : (last number : List ℕ) (c v : ℕ) (s w : List ℕ) (pairs : Bool) → v ≡ 0 → Right last number c s w pairs 0
+    → (j : ℕ) → (j ≡ v) ⊎ Right last number c s w pairs j → Right last number c s w pairs j
+none-right last number c v s w pairs e z j (inl d) = rw (d, e) z
+none-right last number c v s w pairs e z j (inr r) = r
 
 -- three nets, one after another
 pub three-right : {P Q R S : ℕ → Type 0} (x y z : ℕ) → ((j : ℕ) → (j ≡ x) ⊎ P j → Q j) → ((j : ℕ) → (j ≡ y) ⊎ Q j → R j) → ((j : ℕ) → (j ≡ z) ⊎ R j → S j)

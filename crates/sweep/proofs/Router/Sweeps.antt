@@ -81,7 +81,7 @@ module _ (top bottom first last : List ℕ) (sp : Spans top bottom first last) {
       let p : 0 < suc v = omega arith in
       rw (sp .after (suc c) (suc v) b, h .lows .at (suc v) p b, h .highs .at (suc v) p b, add-one c)
 
-  module _ {s w : List ℕ} (so : Sorted last number c s w) where
+  module _ {s w : List ℕ} {pairs : Bool} (so : Sorted last number c s w pairs) where
     -- a member is a net with strands
     counted : (v : ℕ) → 0 < v → 0 < getD number v 0 → (v ≤ 256) × (0 < many v tr)
     counted v p q =
@@ -109,9 +109,9 @@ module _ (top bottom first last : List ℕ) (sp : Spans top bottom first last) {
             (omega arith, so v .stretched ∙ rw (a .0, sym (sp .after c v b), a .1, lt-ltb 0 (getD number v 0) m) refl)
 
     -- the set of wide nets by its test
-    wide-marks : Marks (wideAt top bottom c tr) tr w
+    wide-marks : pairs ≡ false → Marks (wideAt top bottom c tr) tr w
     unfolding wideBy wideAt
-    wide-marks = record { sound = λ v e. back v (sym (so v .wide) ∙ e); whole = there }
+    wide-marks m = record { sound = λ v e. back v (sym (so v .wide m) ∙ e); whole = there }
       where
         back : (v : ℕ) → (not (eqb v 0) && (ltb c (getD last v 0) && ltb 2 (getD number v 0))) ≡ true → (0 < v) × (wideAt top bottom c tr v ≡ true) × On v tr
         back v e =
@@ -126,7 +126,7 @@ module _ (top bottom first last : List ℕ) (sp : Spans top bottom first last) {
         there v o p e =
             let b : v ≤ 256 = on-small h v o in
             let a = and-true (Drawing.later top bottom c v) _ e in
-            (omega arith, so v .wide ∙ rw (ne-eqb v 0 (λ q. omega arith), sym (sp .after c v b), a .0, h .numbers .at v p b, a .1) refl)
+            (omega arith, so v .wide m ∙ rw (ne-eqb v 0 (λ q. omega arith), sym (sp .after c v b), a .0, h .numbers .at v p b, a .1) refl)
 
     -- its lowest is the stretched net
     stretched-is : (v : ℕ) → Next s 0 v → v ≡ stretchedNet top bottom c tr
@@ -134,14 +134,14 @@ module _ (top bottom first last : List ℕ) (sp : Spans top bottom first last) {
     stretched-is v n = lowest-net (stretchedAt top bottom c) tr s v stretched-marks n
 
     -- the net of rule 2 of a many-pin channel
-    crowded-is : (v : ℕ) → Crowded s w v → v ≡ crowdedNet top bottom c tr
+    crowded-is : pairs ≡ false → (v : ℕ) → Crowded s w v → v ≡ crowdedNet top bottom c tr
     unfolding crowdedNet
-    crowded-is v (inl n) =
+    crowded-is m v (inl n) =
         let e : v ≡ stretchedNet top bottom c tr = stretched-is v (n .0) in
         e ∙ sym (rw (ne-eqb (stretchedNet top bottom c tr) 0 (λ q. n .1 (e ∙ q))) refl)
-    crowded-is v (inr n) =
+    crowded-is m v (inr n) =
         let e : stretchedNet top bottom c tr ≡ 0 = sym (stretched-is 0 (n .0)) in
-        lowest-net (wideAt top bottom c tr) tr w v wide-marks (n .1) ∙ sym (rw (eq-eqb (stretchedNet top bottom c tr) 0 e) refl)
+        lowest-net (wideAt top bottom c tr) tr w v (wide-marks m) (n .1) ∙ sym (rw (eq-eqb (stretchedNet top bottom c tr) 0 e) refl)
 
     -- the net of rule 2 is numbered up to 256
     next-small : (u : List ℕ) (p : ℕ → Bool) (v : ℕ) → Marks p tr u → Next u 0 v → v ≤ 256
@@ -155,18 +155,21 @@ module _ (top bottom first last : List ℕ) (sp : Spans top bottom first last) {
     stretched-small v n = next-small s (stretchedAt top bottom c) v stretched-marks n
 
     -- so is a crowded one
-    pub crowded-small : (v : ℕ) → Crowded s w v → v ≤ 256
-    crowded-small v (inl n) = stretched-small v (n .0)
-    crowded-small v (inr n) = next-small w (wideAt top bottom c tr) v wide-marks (n .1)
+    pub crowded-small : pairs ≡ false → (v : ℕ) → Crowded s w v → v ≤ 256
+    crowded-small m v (inl n) = stretched-small v (n .0)
+    crowded-small m v (inr n) = next-small w (wideAt top bottom c tr) v (wide-marks m) (n .1)
 
     -- the net of rule 2 is numbered up to 256
-    pub join-small : (v : ℕ) (pairs : Bool) → ToJoin s w v pairs → v ≤ 256
-    join-small v true n = stretched-small v n
-    join-small v false n = crowded-small v n
+    pub join-small : (v : ℕ) → ToJoin s w v pairs → v ≤ 256
+    join-small v n = go pairs refl n
+      where
+        go : (p : Bool) → pairs ≡ p → ToJoin s w v p → v ≤ 256
+        go true e n = stretched-small v n
+        go false e n = crowded-small e v n
 
 -- a column of a two-pin channel, from what its functions found
-module _ (top bottom first last : List ℕ) {t : ℕ} {d f low high number s w : List ℕ} (c : ℕ) (A B : Pin) (free : Free) (v : ℕ) (N : Joint) (x : Action)
-    (h : Holds t (tracksOf t d) d f low high number) (so : Sorted last number c s w)
+module _ (top bottom first last : List ℕ) {t : ℕ} {d f low high number s w : List ℕ} {pairs : Bool} (c : ℕ) (A B : Pin) (free : Free) (v : ℕ) (N : Joint) (x : Action)
+    (h : Holds t (tracksOf t d) d f low high number) (so : Sorted last number c s w pairs)
     (ea : A ≡ pinBy (getD first (getD top c 0) 0) (getD last (getD top c 0) 0) (getD low (getD top c 0) 0) (getD high (getD top c 0) 0) (getD number (getD top c 0) 0) c (getD top c 0))
     (eb : B ≡ pinBy (getD first (getD bottom c 0) 0) (getD last (getD bottom c 0) 0) (getD low (getD bottom c 0) 0) (getD high (getD bottom c 0) 0) (getD number (getD bottom c 0) 0) c (getD bottom c 0))
     (ef : free ≡ freeOf (tracksOf t d))
@@ -182,17 +185,17 @@ module _ (top bottom first last : List ℕ) {t : ℕ} {d f low high number s w :
       rw (r .two, r .has) (cc)
 
   -- and of a many-pin channel
-  pub column-many-is : Ready top bottom first last t false → Crowded s w v → (b : Bool) → b ≡ ltb (c + 1) (getD last (getD top c 0) 0)
+  pub column-many-is : pairs ≡ false → Ready top bottom first last t pairs → Crowded s w v → (b : Bool) → b ≡ ltb (c + 1) (getD last (getD top c 0) 0)
       → x ≡ chooseMany t A B free N b → x ≡ action top bottom c (tracksOf t d)
   unfolding action
-  column-many-is r nx b el ex =
+  column-many-is m r nx b el ex =
       let p : A ≡ pinAt top bottom c (tracksOf t d) (getD top c 0) = ea ∙ pin-is top bottom first last (r .spans) h c (getD top c 0) (r .tops c) in
       let q : B ≡ pinAt top bottom c (tracksOf t d) (getD bottom c 0) = eb ∙ pin-is top bottom first last (r .spans) h c (getD bottom c 0) (r .bottoms c) in
       let n : N ≡ jointOf top bottom c (tracksOf t d) (crowdedNet top bottom c (tracksOf t d)) =
-      en ∙ joint-is top bottom first last (r .spans) h c v (crowded-small top bottom first last (r .spans) h c so v nx)
-      ∙ ap (jointOf top bottom c (tracksOf t d)) (crowded-is top bottom first last (r .spans) h c so v nx) in
+      en ∙ joint-is top bottom first last (r .spans) h c v (crowded-small top bottom first last (r .spans) h c so m v nx)
+      ∙ ap (jointOf top bottom c (tracksOf t d)) (crowded-is top bottom first last (r .spans) h c so m v nx) in
       let l : b ≡ Drawing.later top bottom (suc c) (getD top c 0) = el ∙ ap (λ (k : ℕ). ltb k (getD last (getD top c 0) 0)) (add-one c) ∙ sym (r .spans .after (suc c) (getD top c 0) (r .tops c)) in
-      rw (r .two, r .has) (cc)
+      rw (r .two ∙ m, r .has) (cc)
 
 -- ---- one column after another
 

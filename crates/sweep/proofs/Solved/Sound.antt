@@ -19,7 +19,7 @@ use Rattle.sweep.proofs.Solved.After.{Gives, one, two, three, Distinct,
 -- THE ENTRIES OF A COLUMN
 
 -- a list of values, by index
-getD-listed : (k y i : ℕ) (f : ℕ → ℕ) → i < k → getD (listed k y f) i 0 ≡ f (y + i)
+pub getD-listed : (k y i : ℕ) (f : ℕ → ℕ) → i < k → getD (listed k y f) i 0 ≡ f (y + i)
 unfolding listed
 getD-listed zero y i f h = absurd (omega arith)
 getD-listed (suc k) y zero f h = ap f (omega arith)

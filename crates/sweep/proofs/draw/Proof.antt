@@ -40,7 +40,7 @@ sweep-columns-requires c κs =
         (
           Begin.begun _ _ _ _ _ _ _ _ (o .pre .0 .has) (o .pre .0 .fits) (c .before .before .before .before .before .before .before .before .before .before .before .before .before .before .no-tracks .ensures) (c .before .before .before .before .before .before .before .before .before .before .before .before .before .all-free .ensures) (c .before .before .before .before .before .before .before .before .before .before .before .before .no-nets .ensures) (c .before .before .before .before .before .before .before .before .before .before .before .no-nets2 .ensures) (c .before .before .before .before .before .before .before .before .before .before .no-nets3 .ensures),
           (
-            Begin.none-sorted _ _ _ _ (c .before .before .before .before .before .before .before .before .before .before .no-nets3 .ensures) (c .before .before .before .before .before .before .before .before .before .empty .ensures) (c .before .before .before .before .before .before .before .before .empty2 .ensures),
+            Begin.none-sorted _ _ _ _ (o .args .pairs) (c .before .before .before .before .before .before .before .before .before .before .no-nets3 .ensures) (c .before .before .before .before .before .before .before .before .before .empty .ensures) (c .before .before .before .before .before .before .before .before .empty2 .ensures),
             Added.first-room (o .args .top .now) (o .args .bottom .now) (o .args .t) (length (o .args .layout .now)) (o .pre .1 .1 .1),
           ),
         ),
@@ -55,7 +55,7 @@ finish-requires c κs =
     subst (λ (q : ℕ). width (o .args .top .now) (o .args .bottom .now) * (2 * o .args .t + 1) ≤ q) (sym (s .kept .1 .1 .0)) (o .pre .1 .1 .1) in
     let z = Added.fits-all (o .args .top .now) (o .args .bottom .now) (s .ensures .0) 511 (length (s .last .1 .1 .0)) (o .pre .1 .1 .0) room in
     let h = own (s .ensures .0) in
-    (o .pre .0 .most, (z .0, (h, (Begin.all-remain (o .args .top .now) (o .args .bottom .now) (o .args .first .now) (o .args .last .now) _ _ (o .pre .0 .spans) (o .pre .0 .rows) h (s .ensures .1 .0), z .1))))
+    (o .pre .0 .most, (z .0, (h, (Begin.all-remain (o .args .top .now) (o .args .bottom .now) (o .args .first .now) (o .args .last .now) _ _ (o .args .pairs) (o .pre .0 .spans) (o .pre .0 .rows) h (s .ensures .1 .0), z .1))))
 
 same-length : tie.Need-same-length
 same-length c = search needs

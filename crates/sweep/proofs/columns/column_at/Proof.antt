@@ -49,7 +49,7 @@ joint-at-requires c κs =
         h .fits,
         h .sized,
         omega (arith, o .pre .0, o .pre .1 .0 .most),
-        Sweeps.join-small (o .args .top .now) (o .args .bottom .now) (o .args .first .now) (o .args .last .now) (o .pre .1 .0 .spans) h (o .args .c) (o .pre .1 .1 .1) (c .net-to-join .result) (o .args .pairs) (c .net-to-join .ensures),
+        Sweeps.join-small (o .args .top .now) (o .args .bottom .now) (o .args .first .now) (o .args .last .now) (o .pre .1 .0 .spans) h (o .args .c) (o .pre .1 .1 .1) (c .net-to-join .result) (c .net-to-join .ensures),
       ),
       (h .lows, h .highs),
     )
@@ -98,7 +98,7 @@ returns-2 c =
     let v = c .before .before .before .before .net-to-join in
     Sweeps.column-many-is (o .args .top .now) (o .args .bottom .now) (o .args .first .now) (o .args .last .now) (o .args .c) _ _ _ _ _ _ h (o .pre .1 .1 .1)
     (c .before .before .before .before .before .before .before .before .pin-at .ensures) (c .before .before .before .before .before .before .pin-at2 .ensures) (c .before .before .before .before .before .free-tracks .ensures (o .args .t) (o .args .tracks .now) (h .fits) (h .sized) (h .frees))
-    (c .before .before .before .joint-at .ensures) (subst (Ready _ _ _ _ _) (c .before .before .if1 .left) (o .pre .1 .0))
+    (c .before .before .before .joint-at .ensures) (c .before .before .if1 .left) (o .pre .1 .0)
     (subst (λ (b : Bool). ToJoin (o .args .stretched .now) (o .args .wide .now) (v .result) b) (c .before .before .if1 .left) (v .ensures)) _ (c .before .later-than .ensures) (c .choose-many .ensures)
 
 pub column-at-spec : {M : Type 1} → statement M

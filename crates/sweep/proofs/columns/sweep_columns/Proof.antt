@@ -19,7 +19,7 @@ use Rattle.sweep.proofs.columns.sweep_columns.Tie as tie
 
 abbrev Inv-loop : tie.InvT-loop
 Inv-loop top bottom layout₀ first last tracks₀ free₀ low₀ high₀ many₀ stretched₀ wide₀ t pairs each i₀ at₀ c₀ layout tracks free low high many stretched wide i at c =
-    (i ≤ length top) × (at ≡ i * each) × (c ≡ i) × Holds t (gap top bottom i) tracks free low high many × Sorted last many i stretched wide
+    (i ≤ length top) × (at ≡ i * each) × (c ≡ i) × Holds t (gap top bottom i) tracks free low high many × Sorted last many i stretched wide pairs
     × (layout ≡ drawn top bottom i ++ drop (i * each) layout₀) × (length (drawn top bottom i) ≡ i * each) × (length layout ≡ length layout₀)
 
 abbrev μ-loop : tie.MeasureT-loop
@@ -69,7 +69,7 @@ sort-three-requires c κs =
     let o = c .before .before .before .before .before .before .before .before .before .before .before .before .before .before .before .before .before .before .before .before .before .before .before .before in
     let l = c .before .before .before .before .before .before .before .before .before .before .before .before .before .before .before .before .before .before .before .before .loop in
     let ax = Sweeps.applies-at (o .args .top .now) (o .args .bottom .now) (l .i) (c .before .before .before .before .before .before .before .before .before .before .before .column-at .result) (l .inv .3) (c .before .before .before .before .before .before .before .before .before .before .before .column-at .ensures) (o .pre .1 .0 (l .i) (c .before .before .before .before .before .before .before .before .before .before .before .before .before .before .before .before .before .before .before .loop-test .taken)) in
-    (ax .ended, o .pre .0 .tops (l .i), o .pre .0 .bottoms (l .i), Sorting.zero-right (o .args .last .now) (l .many) _ (l .i) (l .c + 1) (l .stretched) (l .wide) (l .inv .4 0))
+    (ax .ended, o .pre .0 .tops (l .i), o .pre .0 .bottoms (l .i), Sorting.zero-right (o .args .last .now) (l .many) _ (l .i) (l .c + 1) (l .stretched) (l .wide) (o .args .pairs) (l .inv .4 0))
 
 add-write-column : tie.Need-add-write-column Inv-loop μ-loop
 add-write-column c =
@@ -151,7 +151,7 @@ returns c =
     let e : l .i ≡ length (o .args .top .now) = omega arith in (
       subst (λ (z : ℕ). Holds (o .args .t) (gap (o .args .top .now) (o .args .bottom .now) z) (l .tracks) (l .free) (l .low) (l .high) (l .many)) e (l .inv .3),
       (
-        subst (λ (z : ℕ). Sorted (o .args .last .now) (l .many) z (l .stretched) (l .wide)) e (l .inv .4),
+        subst (λ (z : ℕ). Sorted (o .args .last .now) (l .many) z (l .stretched) (l .wide) (o .args .pairs)) e (l .inv .4),
         (
           subst (λ (z : ℕ). l .layout ≡ drawn (o .args .top .now) (o .args .bottom .now) z ++ drop (z * (2 * o .args .t + 1)) (o .args .layout .now)) e (l .inv .5),
           subst (λ (z : ℕ). length (drawn (o .args .top .now) (o .args .bottom .now) z) ≡ z * (2 * o .args .t + 1)) e (l .inv .6),
