@@ -6,6 +6,7 @@ pub mod Scans
 pub mod Sets
 pub mod Named
 pub mod Lowest
+pub mod Joints
 pub mod Sweeps
 pub mod Sorting
 pub mod Added

@@ -11,7 +11,7 @@ use Rattle.sets.specs.Member.{member, Lowest}
 use Rattle.sweep.specs.declared.Action.{Action}
 use Rattle.sweep.specs.declared.Pin.{Pin}
 use Rattle.sweep.specs.declared.Joint.{Joint}
-use Rattle.sweep.specs.Tracks.{lowest, highest, many, clear, verticals}
+use Rattle.sweep.specs.Tracks.{lowest, second, highest, many, clear, verticals}
 use Rattle.sweep.specs.Drawing.{kindBy, noPin, noJoint, later, action, gap, joining, remains}
 use Rattle.sweep.specs.Applies.{Applies}
 
@@ -62,10 +62,11 @@ pinBy first last low high number c v =
     pick (eqb v 0) noPin
     (record { net = v; kind = kindBy (not (eqb first 0) && leb first c) (ltb (c + 1) last); low = low; high = high; many = number })
 
--- net v as the net of rule 2 in column c + 1 (0: none), by its last column and its strands
+-- net v as the net of rule 2 in column c + 1 (0: none), by its last column and its strands; the second lowest only where it leaves on that one
 unfoldable pub jointBy : (last low second high c v : ℕ) → Joint
 jointBy last low second high c v =
-    pick (eqb v 0) noJoint (record { net = v; low = low; second = second; high = high; later = ltb (c + 1) last })
+    pick (eqb v 0) noJoint
+    (record { net = v; low = low; second = pick (ltb (c + 1) last) second 0; high = high; later = ltb (c + 1) last })
 
 -- whether net v is stretched at gap c, and whether it is open there with three or more strands
 unfoldable pub stretchedBy : (last number : List ℕ) (c v : ℕ) → Bool
@@ -93,10 +94,9 @@ pub record Next (s : List ℕ) (a r : ℕ) : Type 0 where
 abbrev pub Crowded : (s w : List ℕ) (v : ℕ) → Type 0
 Crowded s w v = (Next s 0 v × (v ≡ 0 → ⊥)) ⊎ (Next s 0 0 × Next w 0 v)
 
--- v is the net that rule 2 joins, by the sets s of stretched nets and w of wide ones
-abbrev pub ToJoin : (s w : List ℕ) (v : ℕ) (pairs : Bool) → Type 0
-ToJoin s w v true = Next s 0 v
-ToJoin s w v false = Crowded s w v
+-- N is the lowest member of s as the net of rule 2 in column c + 1, by the nets' last columns and their strands on the tracks tr
+abbrev pub Joins : (last low high s tr : List ℕ) (c : ℕ) (N : Joint) → Type 0
+Joins last low high s tr c N = (v : ℕ) → Next s 0 v → jointBy (getD last v 0) (getD low v 0) (second v tr) (getD high v 0) c v ≡ N
 
 -- what the sweep goes by; `pairs` says whether each net has two pins
 pub record Ready (top bottom first last : List ℕ) (t : ℕ) (pairs : Bool) : Type 0 where

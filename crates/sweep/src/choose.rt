@@ -5,11 +5,13 @@ use crate::Joint;
 use crate::Pin;
 use crate::actions;
 ghost use mathlib.Core.Path.{_≡_};
-ghost use Prim.Native.Nat.{_≤_};
+ghost use Prim.Native.Nat.{_≤_, max};
 ghost use lib.Dec.{eqb};
 ghost use Rattle.grid.specs.Channel.{pick};
 ghost use Rattle.sweep.specs.Rules.{kindOf};
-ghost use Rattle.sweep.specs.TwoPin.{chooseTwo, joinOr, byKinds as byTwo};
+ghost use Rattle.sweep.specs.declared.Free.{Free};
+ghost use Rattle.sweep.specs.declared.Joint.{Joint};
+ghost use Rattle.sweep.specs.TwoPin.{joinOr, byKinds as byTwo};
 ghost use Rattle.sweep.specs.ManyPin.{chooseMany, topContinues, bottomContinues, bothContinue, bothPins, byKinds as byMany};
 
 // Rule 2 of two-pin channels: the stretched net is joined, and where there is none the action on free tracks is taken.
@@ -23,42 +25,32 @@ pub fn join_or(n: Joint, a: u16, b: u16, other: Action) -> Action
     }
 }
 
-// What a column of a two-pin channel does by its pair of kinds, where its pins are of two nets.
-pub fn kinds_two(a: Pin, b: Pin, f: Free, n: Joint) -> Action
-    requires { ⌜ (a .kind ≤ 3) × (b .kind ≤ 3) ⌝ }
+// What a column of a two-pin channel does where its pins are of two nets and both are none or start: rules 1 and 2.
+pub fn starts_two(a: Pin, b: Pin, f: Free, n: Joint) -> Action
+    requires { ⌜ (a .kind ≤ 1) × (b .kind ≤ 1) ⌝ }
     ensures { λ r. ⌜ r ≡ byTwo a b f n (kindOf (a .kind)) (kindOf (b .kind)) ⌝ }
 {
     match 4 * a.kind + b.kind {
         1 => join_or(n, a.net, b.net, actions::bottom_takes_free(f, b.net)),
-        2 => actions::go_straight(),
-        3 => actions::bottom_ends(a, b),
         4 => join_or(n, a.net, b.net, actions::top_takes_free(f, a.net)),
         5 => join_or(n, a.net, b.net, actions::both_take_free(f, a.net, b.net)),
-        6 => actions::go_straight(),
-        7 => actions::bottom_ends(a, b),
-        8 => actions::go_straight(),
-        9 => actions::go_straight(),
-        10 => actions::go_straight(),
-        11 => actions::go_straight(),
-        12 => actions::top_ends(a, b),
-        13 => actions::top_ends(a, b),
-        14 => actions::go_straight(),
-        15 => actions::both_end(a, b),
         _ => actions::go_straight(),
     }
 }
 
-pub fn choose_two(t: u16, a: Pin, b: Pin, f: Free, n: Joint) -> Action
-    requires { ⌜ (t ≤ 511) × (a .kind ≤ 3) × (b .kind ≤ 3) ⌝ }
-    ensures { λ r. ⌜ r ≡ chooseTwo t a b f n ⌝ }
+// And where one of them ends its net: rules 3 and 4, whatever tracks are free and whatever net is stretched.
+pub fn ends_two(a: Pin, b: Pin) -> Action
+    requires { ⌜ (a .kind ≤ 3) × (b .kind ≤ 3) × (2 ≤ max (a .kind) (b .kind)) ⌝ }
+    ensures { λ r. ⌜ ((f : Free) (N : Joint) → r ≡ byTwo a b f N (kindOf (a .kind)) (kindOf (b .kind))) ⌝ }
 {
-    if a.net == 0 {
-        return kinds_two(a, b, f, n);
+    match 4 * a.kind + b.kind {
+        3 => actions::bottom_ends(a, b),
+        7 => actions::bottom_ends(a, b),
+        12 => actions::top_ends(a, b),
+        13 => actions::top_ends(a, b),
+        15 => actions::both_end(a, b),
+        _ => actions::go_straight(),
     }
-    if a.net == b.net {
-        return actions::go_full(t, a.net, 0);
-    }
-    kinds_two(a, b, f, n)
 }
 
 // A continuing top net opposite a starting one, or opposite a continuing one where neither has two strands.

@@ -1,16 +1,51 @@
 // The columns 1 to n.
 use crate::Action;
+use crate::Pin;
+use crate::actions;
 use crate::choose;
 use crate::index;
 use crate::nets;
 use crate::pins;
 use crate::writer;
 ghost use mathlib.Core.Path.{_≡_};
-ghost use Prim.Native.Nat.{_+_, _*_, _<_, _≤_};
+ghost use Prim.Native.Nat.{ℕ, _+_, _*_, _<_, _≤_};
 ghost use lib.ListN.{length, drop};
 ghost use mathlib.Core.List.{_++_};
-ghost use Rattle.sweep.specs.Drawing.{action, gap, drawn};
-ghost use Rattle.sweep.specs.State.{tracksOf, Holds, Sorted, Ready, Sound};
+ghost use Rattle.sweep.specs.declared.Joint.{Joint};
+ghost use Rattle.sweep.specs.Tracks.{lowest, highest};
+ghost use Rattle.sweep.specs.TwoPin.{chooseTwo};
+ghost use Rattle.sweep.specs.Drawing.{freeOf, action, gap, drawn};
+ghost use Rattle.sweep.specs.State.{tracksOf, Frees, Indexes, Holds, Next, Joins, Sorted, Ready, Sound};
+
+// What column c + 1 of a two-pin channel does; only a column of starting pins asks for the free tracks and the net of rule 2.
+fn pair_column(
+    a: Pin,
+    b: Pin,
+    c: u16,
+    tracks: &[u16; 512],
+    free: &[u64; 8],
+    last: &[u16; 257],
+    low: &[u16; 257],
+    high: &[u16; 257],
+    stretched: &[u64; 8],
+    t: usize,
+) -> Action
+    requires { ⌜ (a .kind ≤ 3) × (b .kind ≤ 3) × (c < 256) × (t ≤ 511) × (length (now tracks) ≡ 512) × Frees t (now tracks) (now free) ⌝ }
+    requires { ⌜ Indexes lowest (now low) (tracksOf t (now tracks)) × Indexes highest (now high) (tracksOf t (now tracks)) ⌝ }
+    requires { ⌜ ((v : ℕ) → Next (now stretched) 0 v → v ≤ 256) ⌝ }
+    ensures { λ r. ⌜ ((N : Joint) → Joins (now (last .entry)) (now (low .entry)) (now (high .entry)) (now (stretched .entry)) (tracksOf t (now (tracks .entry))) c N → r ≡ chooseTwo t a b (freeOf (tracksOf t (now (tracks .entry)))) N) ⌝ }
+{
+    if (a.net != 0) & (a.net == b.net) {
+        return actions::go_full(t as u16, a.net, 0);
+    }
+    if (a.kind < 2) & (b.kind < 2) {
+        let f = nets::free_tracks(free);
+        let v = nets::lowest_net(stretched);
+        let n = nets::joint_at(tracks, last, low, high, t, c, v);
+        return choose::starts_two(a, b, f, n);
+    }
+    choose::ends_two(a, b)
+}
 
 // What column c + 1 does; pairs says whether each net has two pins.
 fn column_at(
@@ -39,12 +74,12 @@ fn column_at(
     let p = top[c];
     let a = pins::pin_at(first, last, low, high, many, k, p);
     let b = pins::pin_at(first, last, low, high, many, k, bottom[c]);
-    let f = nets::free_tracks(free);
-    let v = nets::net_to_join(stretched, wide, pairs);
-    let n = nets::joint_at(tracks, last, low, high, t, k, v);
     if pairs {
-        return choose::choose_two(t as u16, a, b, f, n);
+        return pair_column(a, b, k, tracks, free, last, low, high, stretched, t);
     }
+    let f = nets::free_tracks(free);
+    let v = nets::crowded_net(stretched, wide);
+    let n = nets::joint_at(tracks, last, low, high, t, k, v);
     choose::choose_many(t as u16, a, b, f, n, pins::later_than(last, k, p))
 }
 

@@ -10,7 +10,7 @@ ghost use lib.Dec.{eqb, ltb};
 ghost use lib.ListN.{length, getD};
 ghost use Rattle.sweep.specs.Tracks.{second, lowest, highest};
 ghost use Rattle.sweep.specs.Drawing.{freeOf};
-ghost use Rattle.sweep.specs.State.{tracksOf, Frees, Indexes, Next, Crowded, ToJoin, Right, jointBy};
+ghost use Rattle.sweep.specs.State.{tracksOf, Frees, Indexes, Next, Crowded, Right, jointBy};
 
 // The two lowest free tracks.
 pub fn free_tracks(free: &[u64; 8]) -> Free
@@ -40,7 +40,7 @@ pub fn next_net(s: &[u64; 8], v: u16) -> u16
 }
 
 // The net that rule 2 of a many-pin channel joins.
-fn crowded_net(stretched: &[u64; 8], wide: &[u64; 8]) -> u16
+pub fn crowded_net(stretched: &[u64; 8], wide: &[u64; 8]) -> u16
     ensures { λ r. ⌜ Crowded (now (stretched .entry)) (now (wide .entry)) r ⌝ }
 {
     let v = lowest_net(stretched);
@@ -48,16 +48,6 @@ fn crowded_net(stretched: &[u64; 8], wide: &[u64; 8]) -> u16
         return lowest_net(wide);
     }
     v
-}
-
-// The net that rule 2 joins; pairs says whether each net has two pins.
-pub fn net_to_join(stretched: &[u64; 8], wide: &[u64; 8], pairs: bool) -> u16
-    ensures { λ r. ⌜ ToJoin (now (stretched .entry)) (now (wide .entry)) r pairs ⌝ }
-{
-    if pairs {
-        return lowest_net(stretched);
-    }
-    crowded_net(stretched, wide)
 }
 
 // The second lowest strand of a net whose lowest is a and highest b, 0 where there is none.
@@ -78,7 +68,7 @@ fn second_of(tracks: &[u16; 512], a: u16, b: u16, t: usize, v: u16) -> u16
     0
 }
 
-// The net v (0: none) as the net that rule 2 joins in column c + 1.
+// The net v (0: none) as the net that rule 2 joins in column c + 1; its second lowest strand only where it has pins after that column.
 pub fn joint_at(
     tracks: &[u16; 512],
     last: &[u16; 257],
@@ -104,13 +94,22 @@ pub fn joint_at(
     let i = v as usize;
     let a = low[i];
     let b = high[i];
+    if last[i] <= c + 1 {
+        return Joint {
+            net: v,
+            low: a,
+            second: 0,
+            high: b,
+            later: false,
+        };
+    }
     let next = second_of(tracks, a, b, t, v);
     Joint {
         net: v,
         low: a,
         second: next,
         high: b,
-        later: c + 1 < last[i],
+        later: true,
     }
 }
 

@@ -24,9 +24,10 @@ use Rattle.sweep.specs.ManyPin.{chooseMany}
 use Rattle.sweep.specs.Drawing
 use Rattle.sweep.specs.Drawing.{kindBy, freeOf, pinAt, stretchedAt, wideAt, stretchedNet, crowdedNet, jointOf, action, gap, drawn}
 use Rattle.sweep.specs.Applies.{Applies}
-use Rattle.sweep.specs.State.{tracksOf, Holds, Spans, Ready, Sorted, Next, Crowded, ToJoin, pinBy, stretchedBy, wideBy, jointBy}
+use Rattle.sweep.specs.State.{tracksOf, Holds, Spans, Ready, Sorted, Next, Crowded, Joins, pinBy, stretchedBy, wideBy, jointBy}
 use Rattle.sweep.proofs.Router.Strands.{below-or}
 use Rattle.sweep.proofs.Router.Arrays.{length-tracks, tracks-at}
+use Rattle.sweep.proofs.Router.Joints.{leaving, two-same, many-same}
 use Rattle.sweep.proofs.Router.Lowest.{On, Marks, lowest-net, many-on, on-many}
 
 -- a kind is a number up to 3
@@ -73,13 +74,13 @@ module _ (top bottom first last : List ℕ) (sp : Spans top bottom first last) {
       let p : 0 < suc v = omega arith in
       rw (sp .before c (suc v) p b, sp .after (suc c) (suc v) b, h .lows .at (suc v) p b, h .highs .at (suc v) p b, h .numbers .at (suc v) p b, add-one c)
 
-  -- so is the net of rule 2
-  joint-is : (v : ℕ) → v ≤ 256 → jointBy (getD last v 0) (getD low v 0) (second v tr) (getD high v 0) c v ≡ jointOf top bottom c tr v
+  -- so is the net of rule 2, but for the second lowest strand where it does not leave on that one
+  joint-is : (v : ℕ) → v ≤ 256 → jointBy (getD last v 0) (getD low v 0) (second v tr) (getD high v 0) c v ≡ leaving (jointOf top bottom c tr v)
   unfolding jointBy jointOf
   joint-is zero b = refl
   joint-is (suc v) b =
       let p : 0 < suc v = omega arith in
-      rw (sp .after (suc c) (suc v) b, h .lows .at (suc v) p b, h .highs .at (suc v) p b, add-one c)
+      rw (ne-eqb (suc v) 0 (λ e. omega arith), sp .after (suc c) (suc v) b, h .lows .at (suc v) p b, h .highs .at (suc v) p b, add-one c)
 
   module _ {s w : List ℕ} {pairs : Bool} (so : Sorted last number c s w pairs) where
     -- a member is a net with strands
@@ -159,43 +160,48 @@ module _ (top bottom first last : List ℕ) (sp : Spans top bottom first last) {
     crowded-small m v (inl n) = stretched-small v (n .0)
     crowded-small m v (inr n) = next-small w (wideAt top bottom c tr) v (wide-marks m) (n .1)
 
-    -- the net of rule 2 is numbered up to 256
-    pub join-small : (v : ℕ) → ToJoin s w v pairs → v ≤ 256
-    join-small v n = go pairs refl n
-      where
-        go : (p : Bool) → pairs ≡ p → ToJoin s w v p → v ≤ 256
-        go true e n = stretched-small v n
-        go false e n = crowded-small e v n
-
--- a column of a two-pin channel, from what its functions found
-module _ (top bottom first last : List ℕ) {t : ℕ} {d f low high number s w : List ℕ} {pairs : Bool} (c : ℕ) (A B : Pin) (free : Free) (v : ℕ) (N : Joint) (x : Action)
+-- a column, from what its functions found
+module _ (top bottom first last : List ℕ) {t : ℕ} {d f low high number s w : List ℕ} {pairs : Bool} (c : ℕ) (A B : Pin) (x : Action)
     (h : Holds t (tracksOf t d) d f low high number) (so : Sorted last number c s w pairs)
     (ea : A ≡ pinBy (getD first (getD top c 0) 0) (getD last (getD top c 0) 0) (getD low (getD top c 0) 0) (getD high (getD top c 0) 0) (getD number (getD top c 0) 0) c (getD top c 0))
-    (eb : B ≡ pinBy (getD first (getD bottom c 0) 0) (getD last (getD bottom c 0) 0) (getD low (getD bottom c 0) 0) (getD high (getD bottom c 0) 0) (getD number (getD bottom c 0) 0) c (getD bottom c 0))
-    (ef : free ≡ freeOf (tracksOf t d))
-    (en : N ≡ jointBy (getD last v 0) (getD low v 0) (second v (tracksOf t d)) (getD high v 0) c v) where
-  pub column-is : Ready top bottom first last t true → Next s 0 v → x ≡ chooseTwo t A B free N → x ≡ action top bottom c (tracksOf t d)
+    (eb : B ≡ pinBy (getD first (getD bottom c 0) 0) (getD last (getD bottom c 0) 0) (getD low (getD bottom c 0) 0) (getD high (getD bottom c 0) 0) (getD number (getD bottom c 0) 0) c (getD bottom c 0)) where
+  -- its top pin
+  top-is : {p : Bool} → Ready top bottom first last t p → A ≡ pinAt top bottom c (tracksOf t d) (getD top c 0)
+  top-is r = ea ∙ pin-is top bottom first last (r .spans) h c (getD top c 0) (r .tops c)
+
+  -- its bottom pin
+  bottom-is : {p : Bool} → Ready top bottom first last t p → B ≡ pinAt top bottom c (tracksOf t d) (getD bottom c 0)
+  bottom-is r = eb ∙ pin-is top bottom first last (r .spans) h c (getD bottom c 0) (r .bottoms c)
+
+  -- of a two-pin channel
+  pub column-is : Ready top bottom first last t true
+      → ((N : Joint) → Joins last low high s (tracksOf t d) c N → x ≡ chooseTwo t A B (freeOf (tracksOf t d)) N)
+      → x ≡ action top bottom c (tracksOf t d)
   unfolding action
-  column-is r nx ex =
-      let p : A ≡ pinAt top bottom c (tracksOf t d) (getD top c 0) = ea ∙ pin-is top bottom first last (r .spans) h c (getD top c 0) (r .tops c) in
-      let q : B ≡ pinAt top bottom c (tracksOf t d) (getD bottom c 0) = eb ∙ pin-is top bottom first last (r .spans) h c (getD bottom c 0) (r .bottoms c) in
-      let n : N ≡ jointOf top bottom c (tracksOf t d) (stretchedNet top bottom c (tracksOf t d)) =
-      en ∙ joint-is top bottom first last (r .spans) h c v (stretched-small top bottom first last (r .spans) h c so v nx)
-      ∙ ap (jointOf top bottom c (tracksOf t d)) (stretched-is top bottom first last (r .spans) h c so v nx) in
-      rw (r .two, r .has) (cc)
+  column-is r ex =
+      let J : ℕ → Joint = jointOf top bottom c (tracksOf t d) in
+      let p = top-is r in
+      let q = bottom-is r in
+      let e : x ≡ chooseTwo t A B (freeOf (tracksOf t d)) (leaving (J (stretchedNet top bottom c (tracksOf t d)))) =
+      ex _ (λ v nx.
+      joint-is top bottom first last (r .spans) h c v (stretched-small top bottom first last (r .spans) h c so v nx)
+      ∙ ap (λ (u : ℕ). leaving (J u)) (stretched-is top bottom first last (r .spans) h c so v nx)) in
+      rw (r .two, r .has) (cc (two-same A B (freeOf (tracksOf t d)) (J (stretchedNet top bottom c (tracksOf t d))) t))
 
   -- and of a many-pin channel
-  pub column-many-is : pairs ≡ false → Ready top bottom first last t pairs → Crowded s w v → (b : Bool) → b ≡ ltb (c + 1) (getD last (getD top c 0) 0)
+  pub column-many-is : pairs ≡ false → Ready top bottom first last t pairs → (free : Free) (v : ℕ) (N : Joint) (b : Bool) → free ≡ freeOf (tracksOf t d) → Crowded s w v
+      → N ≡ jointBy (getD last v 0) (getD low v 0) (second v (tracksOf t d)) (getD high v 0) c v → b ≡ ltb (c + 1) (getD last (getD top c 0) 0)
       → x ≡ chooseMany t A B free N b → x ≡ action top bottom c (tracksOf t d)
   unfolding action
-  column-many-is m r nx b el ex =
-      let p : A ≡ pinAt top bottom c (tracksOf t d) (getD top c 0) = ea ∙ pin-is top bottom first last (r .spans) h c (getD top c 0) (r .tops c) in
-      let q : B ≡ pinAt top bottom c (tracksOf t d) (getD bottom c 0) = eb ∙ pin-is top bottom first last (r .spans) h c (getD bottom c 0) (r .bottoms c) in
-      let n : N ≡ jointOf top bottom c (tracksOf t d) (crowdedNet top bottom c (tracksOf t d)) =
+  column-many-is m r free v N b ef nx en el ex =
+      let J : ℕ → Joint = jointOf top bottom c (tracksOf t d) in
+      let p = top-is r in
+      let q = bottom-is r in
+      let n : N ≡ leaving (J (crowdedNet top bottom c (tracksOf t d))) =
       en ∙ joint-is top bottom first last (r .spans) h c v (crowded-small top bottom first last (r .spans) h c so m v nx)
-      ∙ ap (jointOf top bottom c (tracksOf t d)) (crowded-is top bottom first last (r .spans) h c so m v nx) in
+      ∙ ap (λ (u : ℕ). leaving (J u)) (crowded-is top bottom first last (r .spans) h c so m v nx) in
       let l : b ≡ Drawing.later top bottom (suc c) (getD top c 0) = el ∙ ap (λ (k : ℕ). ltb k (getD last (getD top c 0) 0)) (add-one c) ∙ sym (r .spans .after (suc c) (getD top c 0) (r .tops c)) in
-      rw (r .two ∙ m, r .has) (cc)
+      rw (r .two ∙ m, r .has) (cc (many-same A B free (J (crowdedNet top bottom c (tracksOf t d))) t b))
 
 -- ---- one column after another
 

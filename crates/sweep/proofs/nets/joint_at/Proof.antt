@@ -1,9 +1,9 @@
 -- `joint_at` meets its contract.
-use native.Mathlib.Numerals.{add-one}
+use Prim.Native.Nat.{_<_}
 use Rattle.sweep.specs.State
 use Rattle.sweep.specs.Tracks
 use native.Mathlib.Omega.{arith}
-use borrow.Author.Tests.{eq-eqb, ne-eqb}
+use borrow.Author.Tests.{eq-eqb, ne-eqb, lt-ltb, le-ltb}
 use borrow.Author.Needs.{needs}
 use Rattle.sweep.proofs.nets.joint_at.Statement.{statement}
 use Rattle.sweep.proofs.nets.joint_at.Tie as tie
@@ -24,21 +24,29 @@ mul-b c = search needs
 element-copy-out-b : tie.Need-element-copy-out-b
 element-copy-out-b c = search needs
 
-second-of-requires : tie.Need-second-of-requires
-second-of-requires c κs = (c .before .before .before .pre .0 .0, c .before .before .before .pre .0 .1, c .before .before .before .pre .1 .0 .at (c .before .before .before .args .v) (omega (arith, c .before .before .if1 .left)) (c .before .before .before .pre .0 .3), c .before .before .before .pre .1 .1 .at (c .before .before .before .args .v) (omega (arith, c .before .before .if1 .left)) (c .before .before .before .pre .0 .3))
+mul-if2 : tie.Need-mul-if2
+mul-if2 c = search needs
 
-add-t16 : tie.Need-add-t16
-add-t16 c = search needs
+element-copy-out-if2 : tie.Need-element-copy-out-if2
+element-copy-out-if2 c = search needs
 
-mul-t13 : tie.Need-mul-t13
-mul-t13 c = search needs
-
-element-copy-out-t21 : tie.Need-element-copy-out-t21
-element-copy-out-t21 c = search needs
+add-if2 : tie.Need-add-if2
+add-if2 c = search needs
 
 returns-2 : tie.Need-returns-2
 unfolding State.jointBy
-returns-2 c = simp (ne-eqb _ _ (c .before .before .before .before .if1 .left), c .before .second-of .ensures, add-one)
+returns-2 c = simp (ne-eqb _ _ (c .before .before .before .before .if1 .left), le-ltb _ _ (c .if2 .taken))
+
+second-of-requires : tie.Need-second-of-requires
+second-of-requires c κs =
+    let o = c .before .before .before .before .before in
+    let some : 0 < o .args .v = omega (arith, c .before .before .before .before .if1 .left) in
+    (o .pre .0 .0, o .pre .0 .1, o .pre .1 .0 .at (o .args .v) some (o .pre .0 .3), o .pre .1 .1 .at (o .args .v) some (o .pre .0 .3))
+
+returns-3 : tie.Need-returns-3
+unfolding State.jointBy
+returns-3 c =
+    simp (ne-eqb _ _ (c .before .before .before .before .before .if1 .left), lt-ltb _ _ (c .before .if2 .left), c .second-of .ensures)
 
 pub joint-at-spec : {M : Type 1} → statement M
 joint-at-spec =
@@ -49,8 +57,9 @@ joint-at-spec =
     element-copy-out-a
     mul-b
     element-copy-out-b
+    mul-if2
+    element-copy-out-if2
+    add-if2
+    returns-2
     second-of-requires
-    add-t16
-    mul-t13
-    element-copy-out-t21
-    returns-2)
+    returns-3)
