@@ -29,6 +29,10 @@ pub record Swept (v a y : ℕ) (d s : List ℕ) : Type 0 where
   pub inside : (i : ℕ) → a ≤ i → i < y → getD s i 0 ≡ swept v (getD d i 0)
   pub outside : (i : ℕ) → (i < a) ⊎ (y ≤ i) → getD s i 0 ≡ getD d i 0
 
+-- no strand of net v lies between the tracks a and b
+abbrev pub NoneBetween : (v a b : ℕ) (d : List ℕ) → Type 0
+NoneBetween v a b d = (i : ℕ) → a < i → i < b → getD d i 0 ≡ v → ⊥
+
 -- s is the set of the free tracks among the tracks 1 to t of an array
 pub record Frees (t : ℕ) (a s : List ℕ) : Type 0 where
   pub none : member s 0 ≡ false

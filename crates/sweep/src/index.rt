@@ -5,7 +5,7 @@ ghost use Prim.Native.Nat.{_+_, _<_, _≤_, max};
 ghost use lib.ListN.{length, getD, set};
 ghost use Rattle.sweep.specs.Tracks.{lesser, clear, give, after};
 ghost use Rattle.sweep.specs.Applies.{Open, Applies};
-ghost use Rattle.sweep.specs.State.{tracksOf, swept, Swept, Frees, Holds, blank};
+ghost use Rattle.sweep.specs.State.{tracksOf, swept, Swept, NoneBetween, Frees, Holds, blank};
 
 // The set of t free tracks.
 pub fn all_free(t: usize) -> [u64; 8]
@@ -47,6 +47,29 @@ fn end_between(tracks: &mut [u16; 512], free: &mut [u64; 8], t: usize, a: u16, b
     }
 }
 
+// Ends the strands of a net whose lowest is on track a, the highest on track b, and that has so many.
+fn end_strands(
+    tracks: &mut [u16; 512],
+    free: &mut [u64; 8],
+    t: usize,
+    a: u16,
+    b: u16,
+    number: u16,
+    net: u16,
+)
+    requires { ⌜ (0 < a) × (a ≤ b) × (b ≤ t) × (t ≤ 511) × (length (now tracks) ≡ 512) × Frees t (now tracks) (now free) ⌝ }
+    requires { ⌜ (0 < net) × (number ≤ 2 → NoneBetween net a b (now tracks)) ⌝ }
+    ensures { λ _. ⌜ Swept net a (b + 1) (now (tracks .entry)) (now (tracks .exit)) ⌝ }
+    ensures { λ _. ⌜ Frees t (now (tracks .exit)) (now (free .exit)) ⌝ }
+{
+    if number <= 2 {
+        end_at(tracks, free, t, a as usize, net);
+        end_at(tracks, free, t, b as usize, net);
+        return;
+    }
+    end_between(tracks, free, t, a, b, net);
+}
+
 // Ends all strands of a net.
 pub fn drop_net(
     tracks: &mut [u16; 512],
@@ -67,7 +90,7 @@ pub fn drop_net(
     if many[v] == 0 {
         return;
     }
-    end_between(tracks, free, t, low[v], high[v], net);
+    end_strands(tracks, free, t, low[v], high[v], many[v], net);
     low[v] = 0;
     high[v] = 0;
     many[v] = 0;

@@ -8,17 +8,17 @@ use native.Mathlib.Nat.{le-refl}
 use native.Mathlib.Numerals.{add-one}
 use native.Mathlib.Omega.{arith}
 use lib.Dec.{eqb}
-use borrow.Author.Tests.{ne-eqb, eqb-true, eqb-false}
+use borrow.Author.Tests.{eq-eqb, ne-eqb, eqb-true, eqb-false}
 use lib.ListN.{length, take, drop, getD, set, replicate, length-take, length-drop, length-set}
 use lib.Seq.{getD-set-same, getD-set-other, getD-take, getD-drop, ext-getD, drop-set-add, take-set-lt, set-getD}
 use Rattle.grid.specs.Channel.{pick}
 use Rattle.sweep.specs.Tracks.{strandsFrom, strands, first, last, lowest, highest, many, lesser, clear, give}
 use Rattle.sets.specs.Member.{member, Put}
 use Rattle.sweep.specs.Applies.{Open}
-use Rattle.sweep.specs.State.{tracksOf, swept, Swept, Frees, Indexes, Holds, blank}
+use Rattle.sweep.specs.State.{tracksOf, swept, Swept, NoneBetween, Frees, Indexes, Holds, blank}
 use Rattle.grid.proofs.Counting.{zeros}
 use Rattle.sweep.proofs.Solved.After.{length-clear, clear-get}
-use Rattle.sweep.proofs.Solved.Strands.{between-from}
+use Rattle.sweep.proofs.Solved.Strands.{between-from, two-strands, many-times}
 use Rattle.sweep.proofs.Router.Strands.{before-at-after, below-or, cleared-own, cleared-other, clear-absent, some-low, given-other, given-number, given-low, given-high, first-last, last-at-most, number-at-most}
 
 -- ---- the tracks of an array
@@ -60,6 +60,49 @@ swept-more v a y d s x w ay h e =
 -- the strand on track y ends besides
 pub swept-next : (v a y : ℕ) (d s r : List ℕ) → Swept v a y d s → a ≤ y → y < length d → r ≡ set s y (swept v (getD s y 0)) → Swept v a (y + 1) d r
 swept-next v a y d s r w ay h e = rw e (swept-more v a y d s _ w ay h refl)
+
+-- there are as many tracks then
+pub swept-length : (v y : ℕ) (d r : List ℕ) → r ≡ set d y (swept v (getD d y 0)) → length d ≡ 512 → length r ≡ 512
+swept-length v y d r e l = ap length e ∙ length-set d y (swept v (getD d y 0)) ∙ l
+
+-- tracks without a strand of the net are as good as swept
+swept-past : (v a y b : ℕ) (d s : List ℕ) → Swept v a y d s → y ≤ b → ((i : ℕ) → y ≤ i → i < b → getD d i 0 ≡ v → ⊥) → Swept v a b d s
+swept-past v a y b d s w l n = record { sized = w .sized; inside = into; outside = out }
+  where
+    into : (i : ℕ) → a ≤ i → i < b → getD s i 0 ≡ swept v (getD d i 0)
+    into i ha hb =
+        ⊎-elim (λ k. w .inside i ha k) (λ k. w .outside i (inr k) ∙ sym (ap (λ (x : Bool). pick x 0 (getD d i 0)) (ne-eqb (getD d i 0) v (n i k hb))))
+        (below-or i y)
+
+    out : (i : ℕ) → (i < a) ⊎ (b ≤ i) → getD s i 0 ≡ getD d i 0
+    out i (inl k) = w .outside i (inl k)
+    out i (inr k) = w .outside i (inr (omega arith))
+
+-- a strand that has ended does not end again
+swept-again : (v x : ℕ) → 0 < v → swept v (swept v x) ≡ swept v x
+swept-again v x l = ⊎-elim (λ k. other (λ e. omega arith)) (⊎-elim (λ e. own e) (λ k. other (λ e. omega arith))) (before-at-after x v)
+  where
+    own : x ≡ v → swept v (swept v x) ≡ swept v x
+    own e = simp (eq-eqb x v e, ne-eqb 0 v (λ (z : 0 ≡ v). omega arith))
+
+    other : (x ≡ v → ⊥) → swept v (swept v x) ≡ swept v x
+    other n = simp (ne-eqb x v n)
+
+-- where no strand lies between, the end of the two outer ones is enough
+pub swept-ends : (v a b : ℕ) (d r s : List ℕ) → 0 < v → a ≤ b → b < length d → NoneBetween v a b d
+    → r ≡ set d a (swept v (getD d a 0)) → s ≡ set r b (swept v (getD r b 0)) → Swept v a (b + 1) d s
+swept-ends v a b d r s hv ab hb n er es =
+    let w : Swept v a (a + 1) d r = swept-next v a a d d r (swept-none v a d) (le-refl a) (omega arith) er in
+    ⊎-elim (λ k. swept-next v a b d r s (swept-past v a (a + 1) b d r w (omega arith) (λ i l m. n i (omega arith) m)) ab hb es)
+    (⊎-elim (λ e. one w e) (λ k. absurd (omega arith)))
+    (before-at-after a b)
+  where
+    one : Swept v a (a + 1) d r → a ≡ b → Swept v a (b + 1) d s
+    one w e =
+        let x : getD r b 0 ≡ swept v (getD d b 0) = w .inside b ab (omega arith) in
+        let y : swept v (getD r b 0) ≡ getD r b 0 = ap (swept v) x ∙ swept-again v (getD d b 0) hv ∙ sym x in
+        let z : s ≡ r = es ∙ ap (set r b) y ∙ set-getD r b 0 in
+        rw (z, ← e) w
 
 -- net 0 has no strands to end
 pub clear-none : (l : List ℕ) → clear 0 l ≡ l
@@ -217,6 +260,15 @@ low-high t v d f low high number hv hb h n =
     let tr : List ℕ = tracksOf t d in
     rw (h .lows .at v hv hb, h .highs .at v hv hb)
     (some-low v tr (λ e. n (h .numbers .at v hv hb ∙ e)), first-last 1 v tr, omega (arith, last-at-most 0 v tr, length-tracks t d (h .fits) (h .sized), h .fits))
+
+-- at most two strands: none lies between the lowest and the highest
+pub none-between : (t v : ℕ) (d f low high number : List ℕ) → 0 < v → v ≤ 256 → Holds t (tracksOf t d) d f low high number → getD high v 0 ≤ t
+    → getD number v 0 ≤ 2 → NoneBetween v (getD low v 0) (getD high v 0) d
+none-between t v d f low high number hv hb h ht n zero l m e = absurd (omega arith)
+none-between t v d f low high number hv hb h ht n (suc j) l m e =
+    let tr : List ℕ = tracksOf t d in
+    let k = two-strands v tr (omega (arith, many-times v tr, h .numbers .at v hv hb)) j (omega (arith, length-tracks t d (h .fits) (h .sized))) (tracks-at t d j (omega arith) ∙ e) in
+    ⊎-elim (λ x. absurd (omega (arith, h .lows .at v hv hb))) (λ x. absurd (omega (arith, h .highs .at v hv hb))) k
 
 -- a net has at most 511 strands
 pub number-most : (t v : ℕ) (d f low high number : List ℕ) → 0 < v → v ≤ 256 → Holds t (tracksOf t d) d f low high number → getD number v 0 ≤ 511

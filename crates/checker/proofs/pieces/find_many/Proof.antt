@@ -34,7 +34,7 @@ element-copy-out-if1-2 c = omega arith
 returns : tie.Need-returns Inv-loop μ-loop
 returns c =
     found-at _ _ _ (c .before .before .before .before .loop .inv .1 .1) (c .before .before .before .loop-test .taken)
-    (many-yes _ _ _ (omega arith) (c .if1 .taken))
+    (many-yes _ _ _ (omega arith) (omega (arith, c .if1 .taken)))
 
 add-n : tie.Need-add-n Inv-loop μ-loop
 add-n c = omega arith

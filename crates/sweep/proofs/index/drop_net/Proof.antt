@@ -24,24 +24,32 @@ returns-2 c =
     let v : 0 < o .args .net = omega (arith, c .before .before .if1 .left) in
     Arrays.nothing-dropped (o .args .t) (o .args .net) (o .args .tracks .now) (o .args .free .now) (o .args .low .now) (o .args .high .now) (o .args .many .now) v (o .pre .0) (o .pre .1) (c .if2 .taken)
 
-mul-end-between : tie.Need-mul-end-between
-mul-end-between c = search needs
+mul-end-strands : tie.Need-mul-end-strands
+mul-end-strands c = search needs
 
-element-copy-out-end-between : tie.Need-element-copy-out-end-between
-element-copy-out-end-between c = search needs
+element-copy-out-end-strands : tie.Need-element-copy-out-end-strands
+element-copy-out-end-strands c = search needs
 
-mul-end-between-2 : tie.Need-mul-end-between-2
-mul-end-between-2 c = search needs
+mul-end-strands-2 : tie.Need-mul-end-strands-2
+mul-end-strands-2 c = search needs
 
-element-copy-out-end-between-2 : tie.Need-element-copy-out-end-between-2
-element-copy-out-end-between-2 c = search needs
+element-copy-out-end-strands-2 : tie.Need-element-copy-out-end-strands-2
+element-copy-out-end-strands-2 c = search needs
 
-end-between-requires : tie.Need-end-between-requires
-end-between-requires c κs =
-    let o = c .before .before .before .before .before .before .before in
-    let v : 0 < o .args .net = omega (arith, c .before .before .before .before .before .before .if1 .left) in
-    let b = Arrays.low-high (o .args .t) (o .args .net) (o .args .tracks .now) (o .args .free .now) (o .args .low .now) (o .args .high .now) (o .args .many .now) v (o .pre .0) (o .pre .1) (c .before .before .before .before .if2 .left) in
-    (b .0, b .1, b .2, o .pre .1 .fits, o .pre .1 .sized, o .pre .1 .frees)
+mul-end-strands-3 : tie.Need-mul-end-strands-3
+mul-end-strands-3 c = search needs
+
+element-copy-out-end-strands-3 : tie.Need-element-copy-out-end-strands-3
+element-copy-out-end-strands-3 c = search needs
+
+end-strands-requires : tie.Need-end-strands-requires
+end-strands-requires c κs =
+    let o = c .before .before .before .before .before .before .before .before in
+    let v : 0 < o .args .net = omega (arith, c .before .before .before .before .before .before .before .if1 .left) in
+    let b = Arrays.low-high (o .args .t) (o .args .net) (o .args .tracks .now) (o .args .free .now) (o .args .low .now) (o .args .high .now) (o .args .many .now) v (o .pre .0) (o .pre .1) (c .before .before .before .before .before .if2 .left) in (
+      (b .0, b .1, b .2, o .pre .1 .fits, o .pre .1 .sized, o .pre .1 .frees),
+      (v, Arrays.none-between (o .args .t) (o .args .net) (o .args .tracks .now) (o .args .free .now) (o .args .low .now) (o .args .high .now) (o .args .many .now) v (o .pre .0) (o .pre .1) (b .2)),
+    )
 
 mul-low : tie.Need-mul-low
 mul-low c = search needs
@@ -63,10 +71,10 @@ element-write-many c = search needs
 
 returns-3 : tie.Need-returns-3
 returns-3 c =
-    let o = c .before .before .before .before .before .before .before .before in
-    let v : 0 < o .args .net = omega (arith, c .before .before .before .before .before .before .before .if1 .left) in
+    let o = c .before .before .before .before .before .before .before .before .before in
+    let v : 0 < o .args .net = omega (arith, c .before .before .before .before .before .before .before .before .if1 .left) in
     Arrays.dropped (o .args .t) (o .args .net) (o .args .tracks .now) (o .args .free .now) _ _ (o .args .low .now) (o .args .high .now) (o .args .many .now) v (o .pre .0) (o .pre .1)
-    (c .end-between .ensures .0) (c .end-between .ensures .1)
+    (c .end-strands .ensures .0) (c .end-strands .ensures .1)
 
 pub drop-net-spec : {M : Type 1} → statement M
 drop-net-spec =
@@ -76,11 +84,13 @@ drop-net-spec =
     mul-if2
     element-copy-out-if2
     returns-2
-    mul-end-between
-    element-copy-out-end-between
-    mul-end-between-2
-    element-copy-out-end-between-2
-    end-between-requires
+    mul-end-strands
+    element-copy-out-end-strands
+    mul-end-strands-2
+    element-copy-out-end-strands-2
+    mul-end-strands-3
+    element-copy-out-end-strands-3
+    end-strands-requires
     mul-low
     element-write-low
     mul-high
