@@ -1,7 +1,6 @@
 -- `joint_at` meets its contract.
 use Prim.Native.Nat.{_<_}
 use Rattle.sweep.specs.State
-use Rattle.sweep.specs.Tracks
 use native.Mathlib.Omega.{arith}
 use borrow.Author.Tests.{eq-eqb, ne-eqb, lt-ltb, le-ltb}
 use borrow.Author.Needs.{needs}
