@@ -49,6 +49,13 @@ turn f l c z h = go (ℕ-discrete f 0) (decLt f (suc c)) (ℕ-discrete f (suc c)
     -- it begins later
     go (no n) (no a) (no q) = simp (ne-eqb f 0 n, lt-leb f c (omega arith), lt-leb f (suc c) (omega arith), ne-eqb f (suc c) q, ne-eqb l (suc c) (omega arith))
 
+-- of one net, and of two
+pub on-one : (columns : List ℕ) (c p q : ℕ) → p ≡ q → netsOn columns c p q ≡ bit (eqb (getD columns p 0) c)
+on-one columns c p q e = omega (arith, ap (λ (w : Bool). pick w 0 (bit (eqb (getD columns q 0) c))) (eq-eqb p q e))
+
+pub on-two : (columns : List ℕ) (c p q : ℕ) → p ≢ q → netsOn columns c p q ≡ bit (eqb (getD columns p 0) c) + bit (eqb (getD columns q 0) c)
+on-two columns c p q n = omega (arith, ap (λ (w : Bool). pick w 0 (bit (eqb (getD columns q 0) c))) (ne-eqb p q n))
+
 -- of two nets, two at most have a column
 pub on-le : (columns : List ℕ) (c p q : ℕ) → netsOn columns c p q ≤ 2
 on-le columns c p q = go (eqb p q) (bit-le (eqb (getD columns p 0) c) 1 (λ e. omega arith)) (bit-le (eqb (getD columns q 0) c) 1 (λ e. omega arith))

@@ -6,21 +6,13 @@ ghost use lib.Dec.{eqb};
 ghost use lib.ListN.{length};
 ghost use Rattle.grid.specs.Channel.{bit, density as densityOf};
 ghost use Rattle.grid.specs.Nets.{firstColumn, lastColumn, table};
-ghost use Rattle.grid.specs.Working.{Rows, ofBoth, netsOn};
+ghost use Rattle.grid.specs.Working.{Rows, netsOn};
 
 // 1 where a net's first or last column x is c.
 fn falls_on(x: u16, c: u16) -> usize
     ensures { λ r. ⌜ r ≡ bit (eqb x c) ⌝ }
 {
     if x == c { 1 } else { 0 }
-}
-
-// A figure x of the top pin's net and y of the bottom pin's, one net with both pins once.
-fn of_both(p: usize, q: usize, x: usize, y: usize) -> usize
-    requires { ⌜ (x ≤ 1) × (y ≤ 1) ⌝ }
-    ensures { λ r. ⌜ r ≡ ofBoth p q x y ⌝ }
-{
-    if p == q { x } else { x + y }
 }
 
 fn larger(x: usize, y: usize) -> usize
@@ -39,9 +31,10 @@ fn after(here: usize, c: u16, p: usize, q: usize, first: &[u16], last: &[u16]) -
     let l = last[p];
     let g = first[q];
     let m = last[q];
-    let started = of_both(p, q, falls_on(f, c), falls_on(g, c));
-    let ended = of_both(p, q, falls_on(l, c), falls_on(m, c));
-    here + started - ended
+    if p == q {
+        return here + falls_on(f, c) - falls_on(l, c);
+    }
+    here + falls_on(f, c) + falls_on(g, c) - falls_on(l, c) - falls_on(m, c)
 }
 
 // The density of accepted rows: the largest count over the gaps.
