@@ -45,19 +45,6 @@ fn find_unknown(layout: &[u16], pins: &[u16; 257]) -> usize
     layout.len()
 }
 
-// Whether a layout has a number over 256.
-fn has_over(layout: &[u16]) -> bool
-    ensures { λ r. ⌜ r ≡ over (now (layout .entry)) ⌝ }
-{
-    let mut found = false;
-    let mut i = 0;
-    while i < layout.len() {
-        found = found | (256 < layout[i]);
-        i += 1;
-    }
-    found
-}
-
 // Marks of the numbers up to 256: only 0 and nets by the table have one.
 fn known_numbers(pins: &[u16; 257]) -> [bool; 257]
     requires { ⌜ length (now pins) ≡ 257 ⌝ }
@@ -91,7 +78,7 @@ fn all_known(layout: &[u16], pins: &[u16; 257]) -> bool
     requires { ⌜ length (now pins) ≡ 257 ⌝ }
     ensures { λ r. ⌜ (r ≡ true → AllKnown (now (pins .entry)) (now (layout .entry))) ⌝ }
 {
-    if has_over(layout) {
+    if grid::has_over(layout) {
         return false;
     }
     let known = known_numbers(pins);

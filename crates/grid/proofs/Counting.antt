@@ -41,16 +41,6 @@ holds-times [] i v h e = absurd (omega arith)
 holds-times (x ∷ xs) zero v h e = ⊎-elim (λ d. omega arith) (λ d. absurd (d .0 e)) (eqBit x v)
 holds-times (x ∷ xs) (suc i) v h e = omega (arith, holds-times xs i v (omega arith) e)
 
--- a number that is counted twice stands at two places
-pub times-two : (v : ℕ) (l : List ℕ) → 2 ≤ times v l → (i : ℕ) × (k : ℕ) × (i < k) × (getD l i 0 ≡ v) × (getD l k 0 ≡ v)
-unfolding times
-times-two v [] p = absurd (omega arith)
-times-two v (x ∷ xs) p =
-    ⊎-elim
-    (λ d. let (k, q, e) = times-at v xs (omega arith) in (0, suc k, omega arith, d .0, e))
-    (λ d. let (i, k, q, e, f) = times-two v xs (omega arith) in (suc i, suc k, omega arith, e, f))
-    (eqBit x v)
-
 -- a number that stands at two places is counted twice
 pub two-times : (v : ℕ) (l : List ℕ) (i k : ℕ) → i < k → k < length l → getD l i 0 ≡ v → getD l k 0 ≡ v → 2 ≤ times v l
 unfolding times
@@ -66,14 +56,6 @@ none-times v l empty = go (ℕ-discrete (times v l) 0)
     go : Dec (times v l ≡ 0) → times v l ≡ 0
     go (yes e) = e
     go (no e) = let (i, p, f) = times-at v l (omega arith) in absurd (empty i p f)
-
--- a number with one place at most is counted once at most
-pub lone-times : (v : ℕ) (l : List ℕ) → ((j k : ℕ) → getD l j 0 ≡ v → getD l k 0 ≡ v → j ≡ k) → times v l ≤ 1
-lone-times v l alone = go (decLt 1 (times v l))
-  where
-    go : Dec (1 < times v l) → times v l ≤ 1
-    go (yes p) = let (i, k, q, e, f) = times-two v l p in absurd (omega (arith, alone i k e f))
-    go (no p) = omega arith
 
 -- a net stands below the list's length
 pub at-below : (l : List ℕ) (x N : ℕ) → N ≢ 0 → getD l x 0 ≡ N → x < length l

@@ -5,7 +5,7 @@ use mathlib.Core.Path.{_≡_, refl, sym, subst}
 use mathlib.Core.Logic.{_⊎_, inl, inr, _≢_}
 use mathlib.Core.Bool.{Bool, true, false, _&&_, _||_}
 use native.Mathlib.Omega.{arith}
-use lib.Dec.{T, eqb, ltb, leb}
+use lib.Dec.{T, eqb, ltb}
 use Rattle.grid.specs.Channel.{pick, bit}
 pub use borrow.Author.Tests.{ltb-true, ltb-false, leb-true, leb-false, eqb-true, eqb-false, not-true, not-false}
 pub use borrow.Author.Tests.{lt-ltb, le-ltb, le-leb, lt-leb, eq-eqb, ne-eqb}
@@ -35,18 +35,6 @@ belowBy x v = go (ltb x v) refl
     go : (q : Bool) → ltb x v ≡ q → Below x v q
     go true e = below (ltb-true x v e)
     go false e = above (ltb-false x v e)
-
--- whether a number is at most another
-pub data AtMost (x v : ℕ) : Bool → Type 0 where
-  most : x ≤ v → AtMost x v true
-  over : v < x → AtMost x v false
-
-pub mostBy : (x v : ℕ) → AtMost x v (leb x v)
-mostBy x v = go (leb x v) refl
-  where
-    go : (q : Bool) → leb x v ≡ q → AtMost x v q
-    go true e = most (leb-true x v e)
-    go false e = over (leb-false x v e)
 
 -- BITS
 

@@ -4,7 +4,7 @@ mod scan;
 mod spans;
 
 ghost use mathlib.Core.Path.{_≡_};
-ghost use Rattle.grid.specs.Channel.{pins as pinsOf};
+ghost use Rattle.grid.specs.Channel.{over, pins as pinsOf};
 ghost use Rattle.grid.specs.Nets.{firstColumn, lastColumn, table};
 ghost use Rattle.grid.specs.Answers.{numberOf, refusedWithin, rowCheck, kept, densityCount};
 ghost use Rattle.grid.specs.Working.{blank, Filled};
@@ -113,6 +113,13 @@ pub fn net_facts(
     *last = lasts;
     *pins = counts;
     r
+}
+
+// Whether a slice has a number over 256.
+pub fn has_over(numbers: &[u16]) -> bool
+    ensures { λ r. ⌜ r ≡ over (now (numbers .entry)) ⌝ }
+{
+    scan::has_over(numbers)
 }
 
 // The density of a channel.
