@@ -12,7 +12,7 @@ use lib.ListN.{length, getD}
 use Rattle.grid.specs.Channel.{pick, bit, sum, count, left, right, isOpen, openAt, largest}
 use Rattle.grid.specs.Nets.{pinAt, firstColumn, lastColumn, table}
 use Rattle.grid.specs.Working.{Rows, netsOn}
-use Rattle.grid.proofs.Tests.{eq-eqb, ne-eqb, lt-ltb, le-ltb, le-leb, lt-leb, bit-le}
+use Rattle.grid.proofs.Tests.{eq-eqb, ne-eqb, lt-ltb, le-ltb, le-leb, lt-leb, bit-most}
 use Rattle.grid.proofs.Counting.{sum-plus, sum-zero}
 use Rattle.grid.proofs.Rows.{before}
 use Rattle.grid.proofs.Nets.{open-columns, first-last, first-pinned, last-pinned, no-last}
@@ -58,7 +58,7 @@ on-two columns c p q n = omega (arith, ap (λ (w : Bool). pick w 0 (bit (eqb (ge
 
 -- of two nets, two at most have a column
 pub on-le : (columns : List ℕ) (c p q : ℕ) → netsOn columns c p q ≤ 2
-on-le columns c p q = go (eqb p q) (bit-le (eqb (getD columns p 0) c) 1 (λ e. omega arith)) (bit-le (eqb (getD columns q 0) c) 1 (λ e. omega arith))
+on-le columns c p q = go (eqb p q) (bit-most (eqb (getD columns p 0) c)) (bit-most (eqb (getD columns q 0) c))
   where
     go : {x y : ℕ} (e : Bool) → x ≤ 1 → y ≤ 1 → x + pick e 0 y ≤ 2
     go true a b = omega arith

@@ -8,7 +8,7 @@ use native.Mathlib.Numerals.{add-one}
 use lib.Dec.{eqb}
 use Rattle.grid.specs.Channel.{pick, bit, sum, count}
 use Rattle.grid.specs.Working.{some, ofBoth}
-use Rattle.grid.proofs.Tests.{eq-eqb, ne-eqb, Same, same, diff, sameBy, bit-le}
+use Rattle.grid.proofs.Tests.{eq-eqb, ne-eqb, Same, same, diff, sameBy, bit-most}
 use Rattle.grid.proofs.Counting.{sum-zero}
 
 -- SUMS
@@ -88,4 +88,4 @@ some-same p q k h = ap (λ (n : ℕ). not (eqb n 0)) (sum-same (λ v. bit (p v))
 pub count-le : (p : ℕ → Bool) (k : ℕ) → count p k ≤ k
 unfolding count sum
 count-le p zero = omega arith
-count-le p (suc k) = omega (arith, count-le p k, bit-le (p (suc k)) 1 (λ e. omega arith))
+count-le p (suc k) = omega (arith, count-le p k, bit-most (p (suc k)))

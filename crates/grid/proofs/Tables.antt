@@ -11,7 +11,7 @@ use lib.Seq.{getD-set-same, getD-set-other, ext-getD}
 use Rattle.grid.specs.Channel.{pick, bit, left, pins}
 use Rattle.grid.specs.Nets.{pinAt, firstTo, lastTo, firstColumn, lastColumn, from, table}
 use Rattle.grid.specs.Working.{blank, Figures, some}
-use Rattle.grid.proofs.Tests.{eq-eqb, ne-eqb, Same, same, diff, sameBy, bit-le}
+use Rattle.grid.proofs.Tests.{eq-eqb, ne-eqb, Same, same, diff, sameBy, bit-most}
 use Rattle.grid.proofs.Counting.{zeros}
 use Rattle.grid.proofs.Sums.{some-same}
 use Rattle.grid.proofs.Rows.{before, no-right, left-right, left-suc}
@@ -141,7 +141,7 @@ module _ (top bottom : List ℕ) (i : ℕ) (last counts : List ℕ) (n : Noted t
           let t = ap (λ (m : List ℕ). getD m q 0) ek ∙ tally counts p q (omega (arith, n .counted .size)) in
           let y : length l₁ ≡ 257 = ap length el ∙ simp length-set (n .lasts .size) in
           let z : length k₁ ≡ 257 = ap length ek ∙ simp length-set (n .counted .size) in
-          (omega arith, omega arith, omega (arith, n .few q, bit-le (eqb p q) 1 (λ e. omega arith)))
+          (omega arith, omega arith, omega (arith, n .few q, bit-most (eqb p q)))
 
       -- both pins of column i + 1 are noted
       pub noted-column : (l₂ k₂ : List ℕ) → l₂ ≡ set l₁ q c → k₂ ≡ tallied k₁ q → c ≡ i + 1 → p ≡ getD top i 0 → q ≡ getD bottom i 0 → Noted top bottom (i + 1) l₂ k₂
@@ -166,7 +166,7 @@ module _ (top bottom : List ℕ) (i : ℕ) (last counts : List ℕ) (n : Noted t
               let s = ap (λ (x : ℕ). left top bottom x v) (add-one i) in
               omega (arith, two v);
         };
-        few = λ v. omega (arith, two v, n .few v, bit-le (eqb p v) 1 (λ e. omega arith), bit-le (eqb q v) 1 (λ e. omega arith));
+        few = λ v. omega (arith, two v, n .few v, bit-most (eqb p v), bit-most (eqb q v));
       }
         where
           twice : l₂ ≡ set (set last p c) q c

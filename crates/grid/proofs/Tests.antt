@@ -64,6 +64,10 @@ pub bit-le : (q : Bool) (n : ℕ) → (q ≡ true → 0 < n) → bit q ≤ n
 bit-le true n h = h refl
 bit-le false n h = omega arith
 
+-- and at most 1
+pub bit-most : (q : Bool) → bit q ≤ 1
+bit-most q = bit-le q 1 (λ e. omega arith)
+
 -- AND, OR
 
 -- both of two tests hold

@@ -11,7 +11,7 @@ use native.Mathlib.Omega.{arith}
 use native.Mathlib.Decide.{ℕ-discrete}
 use native.Mathlib.Numerals.{add-one}
 use Rattle.grid.specs.Channel.{pick, bit}
-use Rattle.grid.proofs.Tests.{eq-eqb, ne-eqb}
+use Rattle.grid.proofs.Tests.{eq-eqb, ne-eqb, bit-most}
 use Rattle.checker.specs.Pieces.Label.{sub, sub-hit, sub-miss, sub-self, choose, target}
 use Rattle.checker.specs.Strands.{chosen, Merged, lost, Grown, Joined, Begun}
 
@@ -69,11 +69,6 @@ chosen-more net f q cs e l o a y = go (ℕ-discrete (net e) 0) (ℕ-discrete (ne
     go (no z) (yes d) y = rw (ne-eqb (net e) 0 z, eq-eqb (net e) (net q) d) (a (λ k. z (d ∙ k)))
     go (no z) (no d) y = let k = ne-eqb (net e) 0 z in rw (k, ne-eqb (net e) (net q) d) (rw k at y)
 
--- a bit is at most 1
-bit-small : (b : Bool) → bit b ≤ 1
-bit-small true = omega arith
-bit-small false = omega arith
-
 -- one more for net M
 set-more : (a : List ℕ) (M N : ℕ) → M < length a → getD (set a M (getD a M 0 + 1)) N 0 ≡ getD a N 0 + bit (eqb M N)
 set-more a M N l =
@@ -89,7 +84,7 @@ grown-none a = record { long = refl; most = λ N l. omega arith }
 grown-one : (a : List ℕ) (M : ℕ) → M < length a → Grown a (set a M (getD a M 0 + 1))
 grown-one a M l = record {
   long = length-set a M (getD a M 0 + 1);
-  most = λ N i. omega (arith, set-more a M N l, bit-small (eqb M N));
+  most = λ N i. omega (arith, set-more a M N l, bit-most (eqb M N));
 }
 
 -- equal labels are no join

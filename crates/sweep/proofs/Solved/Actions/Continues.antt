@@ -8,7 +8,7 @@ use native.Mathlib.Omega.{arith}
 use lib.Dec.{eqb}
 use lib.ListN.{length, getD}
 use Rattle.grid.specs.Channel.{pick, bit}
-use Rattle.grid.proofs.Tests.{Same, same, diff, sameBy}
+use Rattle.grid.proofs.Tests.{Same, same, diff, sameBy, bit-most}
 use Rattle.grid.proofs.Drawings.Segments.{Ordered, segment, segment-none, AtRun, carried, bottomRun, topRun}
 use Rattle.sweep.specs.declared.Pin.{Pin}
 use Rattle.sweep.specs.declared.Free.{Free}
@@ -18,7 +18,7 @@ use Rattle.sweep.proofs.Solved.Strands.{Strand, strand-at, strand-times
 use Rattle.sweep.proofs.Solved.After.{gives, Distinct, one-track, two-tracks, one-leaves, two-leaves, three-leaves, runs-on, gift, gift-le, gift-other}
 use Rattle.sweep.proofs.Solved.Sound.{Grant, Out, segments, on, out-at, grant-none, grant-free, grant-old, grant-unless, nobody, topNet, bottomNet}
 use Rattle.sweep.proofs.Solved.Gaps.Pins.{Reaches}
-use Rattle.sweep.proofs.Solved.Actions.Good.{Good, BothOn, bit-most, pick-diff, other-track, other-gift, top-run, bottom-run, pins-sound}
+use Rattle.sweep.proofs.Solved.Actions.Good.{Good, BothOn, pick-diff, other-track, other-gift, top-run, bottom-run, pins-sound}
 use Rattle.sweep.proofs.Solved.Actions.Good.{bottom-end, none-ends, one-leaves-on}
 
 module _ (top bottom : List ℕ) (c t : ℕ) (tr : List ℕ) (size : length tr ≡ t) (A B : Pin) (pinsOn : BothOn top bottom c t tr (A .net) (B .net)) where

@@ -8,7 +8,7 @@ use native.Mathlib.Omega.{arith}
 use lib.Dec.{eqb}
 use lib.ListN.{length, getD}
 use Rattle.grid.specs.Channel.{pick, bit, times, left}
-use Rattle.grid.proofs.Tests.{Same, same, diff, sameBy, pick-not-zero}
+use Rattle.grid.proofs.Tests.{Same, same, diff, sameBy, bit-most, pick-not-zero}
 use Rattle.grid.proofs.Counting.{at-below}
 use Rattle.grid.proofs.Drawings.Segments.{Ordered, segment, segment-run, Fares, alone, bottomRun, topRun}
 use Rattle.sweep.specs.declared.Action.{Action}
@@ -41,11 +41,6 @@ gift-own N u y = go (eqb u N) (sameBy u N)
     go : (q : Bool) → Same u N q → gift N (pick q 0 y) u ≡ 0
     go true e = refl
     go false (diff d) = gift-other N y u d
-
--- a bit is 1 at most
-pub bit-most : (q : Bool) → bit q ≤ 1
-bit-most true = omega arith
-bit-most false = omega arith
 
 -- a track that is none or y
 pub pick-track : (b : Bool) (y j : ℕ) → pick b 0 y ≡ suc j → y ≡ suc j

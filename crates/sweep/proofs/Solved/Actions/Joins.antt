@@ -8,7 +8,7 @@ use native.Mathlib.Omega.{arith}
 use lib.Dec.{eqb}
 use lib.ListN.{length, getD}
 use Rattle.grid.specs.Channel.{pick, times, right}
-use Rattle.grid.proofs.Tests.{Below}
+use Rattle.grid.proofs.Tests.{Below, bit-most}
 use Rattle.grid.proofs.Counting.{at-below}
 use Rattle.grid.proofs.Drawings.Segments.{Ordered, segment-run, segment-none, alone, joined, bottomRun, middleRun, topRun}
 use Rattle.sweep.specs.declared.Joint.{Joint}
@@ -21,7 +21,7 @@ use Rattle.sweep.proofs.Solved.After.{gift-other, gifts}
 use Rattle.sweep.proofs.Solved.Sound.{Sound, Grant, segments, grant-idle, grant-none, grant-old, grant-unless, nobody, topNet, bottomNet, strandNet}
 use Rattle.sweep.proofs.Solved.Gaps.Pins.{true-of, false-of}
 use Rattle.sweep.proofs.Solved.Gaps.Joints.{Bound}
-use Rattle.sweep.proofs.Solved.Actions.Good.{Good, Begun, bit-most, taken-some, pick-diff, pick-track, gift-own, back-within}
+use Rattle.sweep.proofs.Solved.Actions.Good.{Good, Begun, taken-some, pick-diff, pick-track, gift-own, back-within}
 
 -- RULE 2: net N is joined. The nets a and b of the top and the bottom pin may be N, one other net, two, or none
 module _ (top bottom : List ℕ) (c t : ℕ) (tr : List ℕ) (size : length tr ≡ t) (N : Joint) (a b : ℕ) (g : Bound tr N) where
