@@ -1,4 +1,4 @@
-//! A checker in linear time: one pass with labels and a union-find over them.
+//! A checker in one pass, with labels and a union-find over them.
 
 use crate::rows::nets;
 
