@@ -15,10 +15,11 @@
  * entries of each column equal its pins (0 past column n), the last column has
  * no horizontal edge, and the edges of each net are one piece.
  *
- * Numbers. Each call answers with a number: 0 for acceptance, else why it is
- * refused. Refusals are checked in the order of their numbers; a call skips
- * those of the places that it lacks. A refused call writes to no slice or
- * table, and its other figures are 0.
+ * Numbers. Each call but gaxwethi_column answers with a number: 0 for
+ * acceptance, else why it is refused. Refusals are checked in the order of
+ * their numbers; a call skips those of the places that it lacks. A refused
+ * call writes nothing: all that it is lent keeps its contents. Its other
+ * figures are 0, but for the checker's place.
  *
  *    Record    1  under 4 or over 1,030 bytes, or a wrong length field
  *              2  kind not 1
@@ -39,8 +40,9 @@
  *
  * Slices. A slice is lent as a pointer and a length in elements. The pointer
  * is not null, also where the length is 0, is aligned, and is good for that
- * many elements. A slice that is written overlaps no other argument. These
- * are the only conditions: all contents and all numbers are taken.
+ * many elements. The text of gaxwethi_list is lent as a pointer alone and is
+ * good for GAXWETHI_TEXT bytes. What is written overlaps no other argument.
+ * These are the only conditions: all contents and all numbers are taken.
  *
  * No call keeps state, and every call ends; calls from several threads are
  * independent.
@@ -108,8 +110,9 @@ typedef struct {
 
 /*
  * Checks any drawing of a channel by the grid's rules alone. Refuses with 4
- * to 7 and 10 to 16; the number is 0 exactly if w and t are at most 511, the
- * slice has the drawing's length, and the drawing is a solution.
+ * to 7 and 10 to 16; the number is 0 exactly if the rows are accepted (none of
+ * 4 to 7 applies), w and t are at most 511, the slice has the drawing's length,
+ * and the drawing is a solution.
  *
  * The place is, for 13 to 15, the lowest position of such an entry, counted
  * from 0; for 16 the lowest number of such a net; else 0.
@@ -138,25 +141,35 @@ typedef struct {
 } gaxwethi_part;
 
 /*
- * Where column c, counted from 1, lies in a layout slice of len entries: its
- * 2t + 1 entries begin at offset. The length is 0 if w or t is over 511, len
- * is not w * (2t + 1), or c is not 1 to w.
+ * Where column c, counted from 1, lies in a layout slice of len entries: the
+ * offset of its first entry, counted from 0, and the length of its part,
+ * 2t + 1. The part is empty, with offset 0 and length 0, if w or t is over
+ * 511, len is not w * (2t + 1), or c is not 1 to w.
  */
 gaxwethi_part gaxwethi_column(size_t len, size_t w, size_t t, size_t c);
 
 /* The size of the text that gaxwethi_list is lent; the longest listing fits. */
 #define GAXWETHI_TEXT 131072
 
+typedef struct {
+    uint16_t number;
+    size_t length;
+} gaxwethi_list_result;
+
 /*
- * Writes the listing of a record, as the program knee does, and returns its
- * length in bytes; the bytes after it keep their contents, and there is no
- * closing zero byte. A refusal, 1 to 7 with 5 for over 64 columns, is a text
- * too: the line "refused 7".
+ * Writes the listing of a record, the text that the program knee prints for
+ * it, into the first bytes of a text of GAXWETHI_TEXT bytes. Refuses with 1 to
+ * 7, and with 5 for over 64 columns; 4 does not occur, as a record has one n.
+ *
+ * The length is that of the listing in bytes; the bytes after it keep their
+ * contents, and there is no closing zero byte. On refusal it is 0, and the
+ * whole text keeps its contents.
  *
  * A record is, in 16-bit little-endian numbers: the length in bytes of all
  * that follows this number, the kind 1, n, the top row, the bottom row.
  */
-size_t gaxwethi_list(const uint8_t *record, size_t len, uint8_t *text);
+gaxwethi_list_result gaxwethi_list(const uint8_t *record, size_t len,
+                                   uint8_t *text);
 
 #ifdef __cplusplus
 }

@@ -11,10 +11,23 @@ skipped.
 """
 
 import argparse
+import re
 import struct
 import sys
 
 KIND = 1
+MOST = (65535 - 4) // 4  # columns that the length field can count
+
+
+def row_of_words(name, words):
+    """The numbers of a row; a word that is none is a ValueError that names it."""
+    row = []
+    for word in words:
+        digits = "0" if word == "." else word
+        if not re.fullmatch("0*[0-9]{1,5}", digits) or int(digits[-5:]) > 65535:
+            raise ValueError(f"{name} row: {word!r} is not a number 0 to 65535")
+        row.append(int(digits[-5:]))
+    return row
 
 
 def rows_of_text(text):
@@ -27,14 +40,9 @@ def rows_of_text(text):
         name = words[0].rstrip(":")
         if name not in ("top", "bottom") or name in rows:
             raise ValueError(f"one line `top ..` and one line `bottom ..`, not {line!r}")
-        row = [0 if word == "." else int(word) for word in words[1:]]
-        if any(not 0 <= number < 65536 for number in row):
-            raise ValueError(f"a number that does not fit in 16 bits: {line!r}")
-        rows[name] = row
+        rows[name] = row_of_words(name, words[1:])
     if len(rows) < 2:
         raise ValueError("a line `top ..` and a line `bottom ..` are needed")
-    if len(rows["top"]) != len(rows["bottom"]):
-        raise ValueError("the rows differ in length")
     return rows["top"], rows["bottom"]
 
 
@@ -46,9 +54,11 @@ def text_of_rows(top, bottom):
 
 
 def record_of_rows(top, bottom):
-    """The record: length of what follows, kind, columns, top row, bottom row."""
-    if 4 + 4 * len(top) > 65535:
-        raise ValueError("too many columns for a record")
+    """The record: length of what follows, kind, columns, top row, bottom row. It has one count of columns and a length of 16 bits."""
+    if len(top) != len(bottom):
+        raise ValueError(f"the rows differ in length, which a record cannot say: top {len(top)}, bottom {len(bottom)}")
+    if len(top) > MOST:
+        raise ValueError(f"{len(top)} columns, where a record can say at most {MOST}")
     words = [4 + 4 * len(top), KIND, len(top), *top, *bottom]
     return struct.pack(f"<{len(words)}H", *words)
 

@@ -1,16 +1,21 @@
 #!/usr/bin/env python3
-"""The cases of the program `checks`: from a list of cases in text to its standard input and the answers expected of it.
+"""The cases of the program `checks`: its standard input and the answers expected of it.
 
-  checks.py VECTORS STDIN STDOUT        the cases of the file VECTORS and those made here
+  checks.py                             makes crates/checks/stdin and crates/checks/stdout
   checks.py --large SHAPE N STDIN       one drawing of N columns and N tracks, SHAPE one of spiral, zigzag, comb, ladders; the answer goes to standard output
 
-A case in text is five lines, `top ..`, `bottom ..`, `width W tracks T`, `layout ..`, `number N place P`, and cases are parted by an empty line. For the
-program it is 16-bit words, low byte first: the lengths of the two rows, width, tracks, the layout's length (two words, low word first), the rows, the
-layout. A width of -1 becomes 65535, which is refused alike. The answers of the cases made here come from `check` below, a second checker by flood
-fill, which is held to the answers of VECTORS too.
+The cases are those of tools/cases/checks.txt, which the customer worked, with their answers, and some that are made here. A case in text is five lines,
+`top ..`, `bottom ..`, `width W tracks T`, `layout ..`, `number N place P`, and cases are parted by an empty line. For the program it is 16-bit words, low
+byte first: the lengths of the two rows, width, tracks, the layout's length (two words, low word first), the rows, the layout. A width of -1 becomes 65535,
+which is refused alike. The answers of the cases made here come from `check` below, a second checker by flood fill, which is held to the customer's
+answers too.
 """
+import pathlib
 import struct
 import sys
+
+ROOT = pathlib.Path(__file__).resolve().parent.parent
+WORKED = ROOT / 'tools' / 'cases' / 'checks.txt'
 
 
 def check(top, bottom, w, t, layout):
@@ -148,7 +153,7 @@ SHAPES = {'spiral': spiral, 'zigzag': zigzag, 'comb': comb, 'ladders': ladders}
 
 
 def made():
-    """Cases beside those of the vectors: rows refused, and large drawings, whole and with one edge gone."""
+    """Cases beside those of the customer: rows refused, and large drawings, whole and with one edge gone."""
     yield [1, 1], [0], 2, 1, []
     yield [0] * 257, [0] * 257, 257, 0, [0] * 257
     yield [257, 257], [0, 0], 2, 1, [0] * 6
@@ -165,9 +170,9 @@ def made():
             yield top, bottom, d.w, d.t, broken
 
 
-def read(name):
-    """The cases of a text, each with its answer."""
-    for case in open(name).read().strip('\n').split('\n\n'):
+def worked():
+    """The customer's cases, each with its answer."""
+    for case in WORKED.read_text().strip('\n').split('\n\n'):
         f = {line.split(' ')[0]: [int(v) for v in line.split(' ')[1:] if v.lstrip('-').isdigit()] for line in case.split('\n')}
         yield f['top'], f['bottom'], f['width'][0], f['width'][1], f['layout'], (f['number'][0], f['number'][1])
 
@@ -178,22 +183,32 @@ def words(top, bottom, w, t, layout):
     return struct.pack('<%dH' % len(row), *row)
 
 
-def main():
-    if sys.argv[1] == '--large':
-        top, bottom, d = SHAPES[sys.argv[2]](int(sys.argv[3]), int(sys.argv[3]))
-        open(sys.argv[4], 'wb').write(words(top, bottom, d.w, d.t, d.layout))
+def stored():
+    """The bytes of the program's standard input, and the text expected of it."""
+    cases, answers = [], []
+    for *case, answer in worked():
+        if check(*case) != answer:
+            raise AssertionError('the second checker differs from the customer: %s' % case)
+        cases.append(words(*case))
+        answers.append('%d %d\n' % answer)
+    for case in made():
+        cases.append(words(*case))
+        answers.append('%d %d\n' % check(*case))
+    return b''.join(cases), ''.join(answers)
+
+
+def main(arguments):
+    if len(arguments) == 4 and arguments[0] == '--large' and arguments[1] in SHAPES:
+        top, bottom, d = SHAPES[arguments[1]](int(arguments[2]), int(arguments[2]))
+        pathlib.Path(arguments[3]).write_bytes(words(top, bottom, d.w, d.t, d.layout))
         print('%d %d' % check(top, bottom, d.w, d.t, d.layout))
-        return
-    vectors, stdin, stdout = sys.argv[1:4]
-    with open(stdin, 'wb') as cases, open(stdout, 'w') as answers:
-        for *case, answer in read(vectors):
-            if check(*case) != answer:
-                sys.exit('the second checker differs from the vectors: %s' % case)
-            cases.write(words(*case))
-            answers.write('%d %d\n' % answer)
-        for case in made():
-            cases.write(words(*case))
-            answers.write('%d %d\n' % check(*case))
+    elif not arguments:
+        cases, answers = stored()
+        (ROOT / 'crates/checks/stdin').write_bytes(cases)
+        (ROOT / 'crates/checks/stdout').write_bytes(answers.encode())
+    else:
+        sys.exit(__doc__)
 
 
-main()
+if __name__ == '__main__':
+    main(sys.argv[1:])

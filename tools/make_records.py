@@ -1,6 +1,7 @@
 #!/usr/bin/env python3
 """Records to try and the listings they must give.
 
+    make_records.py                        make crates/listings/stdin and crates/listings/stdout
     make_records.py STREAM TEXT [COUNT]    write the records and the text expected for them
 
 STREAM is one record after another, each after a two-byte count of its bytes, little-endian;
@@ -8,10 +9,13 @@ the count stands outside the record, so that damaged and empty records can be am
 TEXT is their listings, one after another. The same COUNT gives the same files.
 """
 
+import pathlib
 import random
 import sys
 
 from second_router import LARGEST, LISTED, listing, write_record
+
+COUNT = 240  # records drawn by lot, beside the others
 
 CASES = (  # the channels to try of the scope paper
     ([], []),
@@ -155,17 +159,20 @@ def records(count):
     return made
 
 
-def main(stream, text, count):
+def stored(count=COUNT):
+    """The bytes of the stream of records, and their listings."""
     made = records(count)
-    with open(stream, "wb") as file:
-        for data in made:
-            file.write(len(data).to_bytes(2, "little") + data)
-    with open(text, "w", newline="\n") as file:
-        for data in made:
-            file.write(listing(data))
+    return b"".join(len(data).to_bytes(2, "little") + data for data in made), "".join(map(listing, made))
+
+
+def main(stream, text, count=COUNT):
+    made, expected = stored(int(count))
+    pathlib.Path(stream).write_bytes(made)
+    pathlib.Path(text).write_bytes(expected.encode())
 
 
 if __name__ == "__main__":
-    if len(sys.argv) not in (3, 4):
+    if len(sys.argv) not in (1, 3, 4):
         sys.exit(__doc__)
-    main(sys.argv[1], sys.argv[2], int(sys.argv[3]) if len(sys.argv) == 4 else 240)
+    folder = pathlib.Path(__file__).resolve().parent.parent / "crates" / "listings"
+    main(*(sys.argv[1:] or (folder / "stdin", folder / "stdout")))

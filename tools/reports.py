@@ -1,6 +1,9 @@
 #!/usr/bin/env python3
-"""Makes crates/reports/stdin and crates/reports/stdout, the channels and their net reports, from document 01 alone. Run it in the repository's root."""
+"""Makes crates/reports/stdin and crates/reports/stdout, the channels and their net reports, from document 01 alone."""
+import pathlib
 import random
+
+ROOT = pathlib.Path(__file__).resolve().parent.parent
 
 
 def refusal(top, bottom):
@@ -85,10 +88,13 @@ def channels():
     return cases
 
 
-cases = channels()
-with open('crates/reports/stdin', 'w') as f:
-    for top, bottom in cases:
-        f.write('%s/%s\n' % (' '.join(map(str, top)), ' '.join(map(str, bottom))))
-with open('crates/reports/stdout', 'w') as f:
-    for top, bottom in cases:
-        f.write('\n'.join(report(top, bottom)) + '\n')
+def stored():
+    """The text of the program's standard input, and the text expected of it."""
+    cases = channels()
+    rows = ['%s/%s\n' % (' '.join(map(str, top)), ' '.join(map(str, bottom))) for top, bottom in cases]
+    return ''.join(rows), ''.join('\n'.join(report(top, bottom)) + '\n' for top, bottom in cases)
+
+
+if __name__ == '__main__':
+    for name, text in zip(('stdin', 'stdout'), stored()):
+        (ROOT / 'crates/reports' / name).write_bytes(text.encode())

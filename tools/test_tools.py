@@ -1,12 +1,18 @@
 #!/usr/bin/env python3
 """Tests of the tools: python3 tools/test_tools.py"""
 
+import pathlib
 import unittest
 from xml.dom import minidom
 
 import channel
+import checks
 import draw
 import listing
+import make_records
+import reports
+
+CRATES = pathlib.Path(__file__).resolve().parent.parent / "crates"
 
 CASE_D = bytes.fromhex("0C 00 01 00 02 00 01 00 02 00 02 00 01 00")
 LISTING_D = "density 2 tracks 2 width 3\n1: 2 0 1 | 2 1\n2: 1 2 2 | 1 1\n3: 0 1 0 | 0 0\n"
@@ -27,9 +33,14 @@ class Channel(unittest.TestCase):
             self.assertEqual(channel.rows_of_record(record), (top, bottom))
 
     def test_refused(self):
-        for text in ["top 1 1\n", "top 1\nbottom 1 1\n", "top 1\ntop 1\n", "top x\nbottom 1\n", "top 65536\nbottom 0\n"]:
+        for text in ["top 1 1\n", "top 1\ntop 1\n", "top x\nbottom 1\n", "top 65536\nbottom 0\n", "top -1\nbottom 0\n"]:
             with self.assertRaises(ValueError):
                 channel.rows_of_text(text)
+        with self.assertRaisesRegex(ValueError, "bottom row: '1_0' is not a number"):
+            channel.rows_of_text("top 1\nbottom 1_0\n")
+        for top, bottom in [([1], [1, 1]), ([0] * 16383, [0] * 16383)]:
+            with self.assertRaises(ValueError):
+                channel.record_of_rows(top, bottom)
         for record in [b"", CASE_D[:-1], CASE_D[:-2], CASE_D + b"\0\0"]:
             with self.assertRaises(ValueError):
                 channel.rows_of_record(record)
@@ -46,6 +57,32 @@ class Listing(unittest.TestCase):
         for text in ["", "refused 7\n", LISTING_D[:-20], LISTING_D.replace("|", "")]:
             with self.assertRaises(ValueError):
                 listing.read(text)
+
+
+class Stored(unittest.TestCase):
+    """The input and the expected output of each program are what its maker makes, byte for byte."""
+
+    def held(self, program, made):
+        for name, content in zip(("stdin", "stdout"), made):
+            content = content if isinstance(content, bytes) else content.encode()
+            stored = (CRATES / program / name).read_bytes()
+            self.assertTrue(stored == content, f"crates/{program}/{name} is not what its maker makes")
+
+    def test_knee(self):
+        self.held("knee", (CASE_D, LISTING_D))
+
+    def test_listings(self):
+        self.held("listings", make_records.stored())
+
+    def test_reports(self):
+        self.held("reports", reports.stored())
+
+    def test_checks(self):
+        self.assertEqual((len(list(checks.worked())), len(list(checks.made()))), (400, 18))
+        self.held("checks", checks.stored())
+
+    def test_no_program_without_a_maker(self):
+        self.assertEqual({path.parent.name for path in CRATES.glob("*/stdout")}, {"knee", "listings", "reports", "checks"})
 
 
 class Draw(unittest.TestCase):

@@ -37,6 +37,11 @@ int main(void)
     if (layout == NULL)
         return 1;
     gaxwethi_route_result drawn = gaxwethi_route(top, n, bottom, n, layout, need.length);
+    if (drawn.number != 0) {
+        printf("refused %u\n", drawn.number);
+        free(layout);
+        return 1;
+    }
     printf("density %zu tracks %zu width %zu\n", drawn.density, drawn.tracks, drawn.width);
 
     size_t length = drawn.width * (2 * drawn.tracks + 1);

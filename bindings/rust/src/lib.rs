@@ -150,12 +150,13 @@ pub fn column(layout: &[u16], width: usize, tracks: usize, c: usize) -> &[u16] {
     }
 }
 
-/// The text that `knee` writes for a record: a listing, or the one line that
-/// says why it is refused (1 to 7, where 5 is over 64 columns).
-pub fn list(record: &[u8]) -> String {
+/// The listing of a record, as `knee` writes it, or refusal 1 to 7, where 5 is
+/// over 64 columns.
+pub fn list(record: &[u8]) -> Result<String, Refusal> {
     let mut text = vec![0; raw::TEXT];
     // SAFETY: the text has the size that the library expects.
-    let length = unsafe { raw::gaxwethi_list(record.as_ptr(), record.len(), text.as_mut_ptr()) };
-    text.truncate(length);
-    String::from_utf8(text).expect("a listing is ASCII text")
+    let r = unsafe { raw::gaxwethi_list(record.as_ptr(), record.len(), text.as_mut_ptr()) };
+    accept(r.number, ())?;
+    text.truncate(r.length);
+    Ok(String::from_utf8(text).expect("a listing is ASCII text"))
 }

@@ -41,6 +41,13 @@ pub struct Part {
     pub length: usize,
 }
 
+#[repr(C)]
+#[derive(Clone, Copy, Debug, PartialEq, Eq)]
+pub struct Listed {
+    pub number: u16,
+    pub length: usize,
+}
+
 extern "C" {
     pub fn gaxwethi_density(top: *const u16, n: usize, bottom: *const u16, m: usize) -> Density;
 
@@ -77,5 +84,5 @@ extern "C" {
 
     pub fn gaxwethi_column(len: usize, w: usize, t: usize, c: usize) -> Part;
 
-    pub fn gaxwethi_list(record: *const u8, len: usize, text: *mut u8) -> usize;
+    pub fn gaxwethi_list(record: *const u8, len: usize, text: *mut u8) -> Listed;
 }

@@ -68,8 +68,47 @@ fn columns_and_listing_of_case_d() {
     assert_eq!(column(&layout, drawn.width, drawn.tracks, 4), []);
     let record = [12, 0, 1, 0, 2, 0, 1, 0, 2, 0, 2, 0, 1, 0];
     let text = "density 2 tracks 2 width 3\n1: 2 0 1 | 2 1\n2: 1 2 2 | 1 1\n3: 0 1 0 | 0 0\n";
-    assert_eq!(list(&record), text);
-    assert_eq!(list(&record[..13]), "refused 1\n");
+    assert_eq!(list(&record).as_deref(), Ok(text));
+    assert_eq!(list(&record[..13]), Err(Refusal::RecordLength));
+}
+
+/// The record of a channel.
+fn record(top: &[u16], bottom: &[u16]) -> Vec<u8> {
+    let head = [4 + 4 * top.len() as u16, 1, top.len() as u16];
+    let words = head.iter().chain(top).chain(bottom);
+    words.flat_map(|word| word.to_le_bytes()).collect()
+}
+
+#[test]
+fn refused_listings() {
+    assert_eq!(list(&[]), Err(Refusal::RecordLength));
+    assert_eq!(list(&[2, 0, 2, 0]), Err(Refusal::RecordKind));
+    assert_eq!(list(&[2, 0, 1, 0]), Err(Refusal::RecordBody));
+    assert_eq!(list(&record(&[0; 65], &[0; 65])), Err(Refusal::TooManyColumns));
+    assert_eq!(list(&record(&[257, 257], &[0, 0])), Err(Refusal::NetNumber));
+    assert_eq!(list(&record(&[1], &[0])), Err(Refusal::SinglePin));
+    assert_eq!(list(&record(&[], &[])).as_deref(), Ok("density 0 tracks 0 width 0\n"));
+    assert!(list(&record(&[0; 64], &[0; 64])).is_ok());
+}
+
+/// What is left of a text that is full of one byte, and the answer.
+fn text_after(record: &[u8]) -> (raw::Listed, Vec<u8>) {
+    let mut text = vec![0xa5; raw::TEXT];
+    // SAFETY: the slices live through the call; the text has the library's size.
+    let r = unsafe { raw::gaxwethi_list(record.as_ptr(), record.len(), text.as_mut_ptr()) };
+    (r, text)
+}
+
+#[test]
+fn text_around_a_listing() {
+    let (drawn, text) = text_after(&record(&[5], &[5]));
+    let listing = b"density 0 tracks 0 width 1\n1: 5 |\n";
+    assert_eq!(drawn, raw::Listed { number: 0, length: listing.len() });
+    assert!(text.starts_with(listing));
+    assert!(text[listing.len()..].iter().all(|&byte| byte == 0xa5));
+    let (refused, text) = text_after(&record(&[1], &[0]));
+    assert_eq!(refused, raw::Listed { number: 7, length: 0 });
+    assert!(text.iter().all(|&byte| byte == 0xa5));
 }
 
 #[test]

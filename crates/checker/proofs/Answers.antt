@@ -1,26 +1,32 @@
--- The checker's answer at each way out of the code.
-use Prim.Native.Nat.{ℕ, _+_, _*_, _≤_, _<_}
-use mathlib.Core.Path.{_≡_, refl, _∙_, ap}
+-- The checker's answer at each way out of the code, its number and its place.
+use Prim.Native.Nat.{ℕ, zero, suc, _+_, _*_, _≤_, _<_}
+use mathlib.Core.Path.{_≡_, refl, sym, _∙_, ap}
 use mathlib.Core.Logic.{_≢_, ⊎-elim, by-cases}
-use mathlib.Core.Bool.{Bool}
+use mathlib.Core.Bool.{Bool, true, false, not, _||_}
 use mathlib.Core.List.{List}
 use lib.ListN.{length, getD, List·getD-eq-default}
+use lib.Dec.{eqb, ltb}
 use native.Mathlib.Omega.{arith}
 use native.Mathlib.Decide.{decLe, decLt}
 use native.Mathlib.Nat.{mul-le-mul-right}
 use Rattle.grid.specs.declared.RowCheck.{RowCheck}
 use Rattle.grid.specs.declared.RowCheck.the-variants.{Fit, Refused}
 use Rattle.grid.specs.declared.Size.{Size}
-use Rattle.grid.specs.Channel.{pins, rowsRefused}
+use Rattle.grid.specs.Channel.{pick, over, count, pins, rowsRefused}
 use Rattle.grid.specs.Nets.{table}
-use Rattle.grid.specs.Answers.{numberOf, refusedWithin, rowCheck, kept}
+use Rattle.grid.specs.Refusals.{firstRefusal, ifAccepted}
+use Rattle.grid.specs.Answers.{rowCheck}
+use Rattle.grid.specs.Answers as rows
 use Rattle.grid.proofs.Tests.{eq-eqb, ne-eqb, lt-ltb, le-ltb}
 use Rattle.grid.proofs.Rows.{rows-fit}
 use Rattle.grid.proofs.Tables.{table-length, table-at}
-use Rattle.grid.proofs.Answers.{check-number, told, refused, kept-new}
+use Rattle.grid.proofs.Answers.{check-number, told, accepted-new}
+use Rattle.grid.proofs.Answers as answers
 use Rattle.checker.specs.declared.Checked.{Checked}
 use Rattle.checker.specs.declared.Checked.the-variants.{Passed}
-use Rattle.checker.specs.Check.{refusal, firstOf, lowest, strange, mispinned, loose, split, entriesChecked, drawingChecked, checked}
+use Rattle.checker.specs.Check.{numberOf, placeOf, checkedBy, lowest, some, strange, mispinned, leavesLast, split}
+use Rattle.checker.specs.Check.{entriesRefused, drawingRefused, refused, place, checked}
+use Rattle.checker.specs.Working.{refusal, answer, entriesChecked, drawingChecked}
 use Rattle.checker.specs.Entries.{Known}
 use Rattle.checker.specs.Strands.{Drawn}
 use Rattle.checker.proofs.Lowest.{lowest-all}
@@ -30,48 +36,95 @@ use Rattle.checker.proofs.entries.Nets.{strange-not}
 pub product-small : (w t : ℕ) → w ≤ 511 → t ≤ 511 → w * (2 * t + 1) ≤ 1000000
 product-small w t a b = omega (arith, mul-le-mul-right (2 * t + 1) a)
 
+-- the number and the place of an answer made of them, where the place is 0 on acceptance
+made-of : (k p : ℕ) → (k ≡ 0 → p ≡ 0) → (numberOf (checkedBy k p) ≡ k) × (placeOf (checkedBy k p) ≡ p)
+made-of zero p z = (refl, sym (z refl))
+made-of (suc k) p z = (refl, refl)
+
+module _ (top bottom : List ℕ) (w t : ℕ) (D : List ℕ) where
+  -- only 13 to 16 have a place
+  pub place-low : (k : ℕ) → k ≤ 12 → place top bottom w t D k ≡ 0
+  unfolding place
+  place-low k l = rw (ne-eqb k 13 (omega arith), ne-eqb k 14 (omega arith), ne-eqb k 15 (omega arith), ne-eqb k 16 (omega arith))
+
+  -- the number and the place of the checker's answer
+  pub check-parts :
+      (numberOf (checked top bottom w t D) ≡ refused top bottom w t D)
+      × (placeOf (checked top bottom w t D) ≡ place top bottom w t D (refused top bottom w t D))
+  unfolding checked
+  check-parts =
+      made-of (refused top bottom w t D) (place top bottom w t D (refused top bottom w t D))
+      (λ e. place-low (refused top bottom w t D) (omega arith))
+
+  -- what the checker promises of them
+  pub check-promise : (r : Checked) → r ≡ checked top bottom w t D
+      → (r ≡ checked top bottom w t D) × ((numberOf r ≡ refused top bottom w t D) × (placeOf r ≡ place top bottom w t D (numberOf r)))
+  check-promise r e =
+      let n = ap numberOf e ∙ check-parts .0 in
+      (e, (n, ap placeOf e ∙ check-parts .1 ∙ ap (λ (k : ℕ). place top bottom w t D k) (sym n)))
+
+  -- one number, one answer
+  same-answer : (k n : ℕ) (r : Checked) → n ≡ k → r ≡ answer top bottom w t D k → r ≡ answer top bottom w t D n
+  same-answer k n r e is = is ∙ ap (λ (k : ℕ). answer top bottom w t D k) (sym e)
+
+  -- a refusal with the place of its number
+  at-place : (k n p : ℕ) (r : Checked) → n ≡ suc k → p ≡ place top bottom w t D (suc k) → r ≡ refusal (suc k) p → r ≡ answer top bottom w t D n
+  at-place k n p r e q is = same-answer (suc k) n r e (is ∙ ap (λ (p : ℕ). refusal (suc k) p) q)
+
+  -- one with the place 0
+  no-place : (k n : ℕ) (r : Checked) → k ≤ 11 → n ≡ suc k → r ≡ refusal (suc k) 0 → r ≡ answer top bottom w t D n
+  no-place k n r l e is = at-place k n 0 r e (sym (place-low (suc k) (omega arith))) is
+
 module _ (top bottom : List ℕ) (w t : ℕ) (D : List ℕ) (r : Checked) where
   -- 10: too narrow
   pub narrow : w < length top → r ≡ refusal 10 0 → r ≡ drawingChecked top bottom w t D
-  unfolding drawingChecked
-  narrow l is = rw (lt-ltb w (length top) l) is
+  unfolding drawingRefused
+  narrow l is = no-place top bottom w t D 9 (drawingRefused top bottom w t D) r (omega arith) (rw (lt-ltb w (length top) l)) is
 
   module _ (a : length top ≤ w) where
     -- 10: too wide
     pub too-wide : 511 < w → r ≡ refusal 10 0 → r ≡ drawingChecked top bottom w t D
-    unfolding drawingChecked
-    too-wide l is = rw (le-ltb w (length top) a, lt-ltb 511 w l) is
+    unfolding drawingRefused
+    too-wide l is =
+        no-place top bottom w t D 9 (drawingRefused top bottom w t D) r (omega arith) (rw (le-ltb w (length top) a, lt-ltb 511 w l)) is
 
     module _ (b : w ≤ 511) where
       -- 11
       pub too-high : 511 < t → r ≡ refusal 11 0 → r ≡ drawingChecked top bottom w t D
-      unfolding drawingChecked
-      too-high l is = rw (le-ltb w (length top) a, le-ltb 511 w b, lt-ltb 511 t l) is
+      unfolding drawingRefused
+      too-high l is =
+          no-place top bottom w t D 10 (drawingRefused top bottom w t D) r (omega arith)
+          (rw (le-ltb w (length top) a, le-ltb 511 w b, lt-ltb 511 t l)) is
 
       module _ (c : t ≤ 511) where
         -- 12
         pub wrong-size : length D ≢ w * (2 * t + 1) → r ≡ refusal 12 0 → r ≡ drawingChecked top bottom w t D
-        unfolding drawingChecked
-        wrong-size n is = rw (le-ltb w (length top) a, le-ltb 511 w b, le-ltb 511 t c, ne-eqb (length D) (w * (2 * t + 1)) n) is
+        unfolding drawingRefused
+        wrong-size n is =
+            no-place top bottom w t D 11 (drawingRefused top bottom w t D) r (omega arith)
+            (rw (le-ltb w (length top) a, le-ltb 511 w b, le-ltb 511 t c, ne-eqb (length D) (w * (2 * t + 1)) n)) is
 
         -- none of these
         pub sized : length D ≡ w * (2 * t + 1) → r ≡ entriesChecked top bottom w t D → r ≡ drawingChecked top bottom w t D
-        unfolding drawingChecked
-        sized d is = rw (le-ltb w (length top) a, le-ltb 511 w b, le-ltb 511 t c, eq-eqb (length D) (w * (2 * t + 1)) d) is
+        unfolding drawingRefused
+        sized d is =
+            same-answer top bottom w t D (entriesRefused top bottom w t D) (drawingRefused top bottom w t D) r
+            (rw (le-ltb w (length top) a, le-ltb 511 w b, le-ltb 511 t c, eq-eqb (length D) (w * (2 * t + 1)) d)) is
 
 -- a search that found number p below n
-found : (k n : ℕ) (P : ℕ → Bool) (p : ℕ) (r rest : Checked) → p ≡ lowest n P → p < n → r ≡ refusal k p → r ≡ firstOf k n P rest
-found k n P p r rest e l is = rw (← e, lt-ltb p n l) is
+some-found : (n : ℕ) (P : ℕ → Bool) (p : ℕ) → p ≡ lowest n P → p < n → some n P ≡ true
+some-found n P p e l = lt-ltb (lowest n P) n (omega arith)
 
 -- and one that found none
-past : (k n : ℕ) (P : ℕ → Bool) (p : ℕ) (r rest : Checked) → p ≡ lowest n P → n ≤ p → r ≡ rest → r ≡ firstOf k n P rest
-past k n P p r rest e l is = rw (← e, le-ltb p n l) is
+none-found : (n : ℕ) (P : ℕ → Bool) (p : ℕ) → p ≡ lowest n P → n ≤ p → some n P ≡ false
+none-found n P p e l = le-ltb (lowest n P) n (omega arith)
 
 module _ (top bottom : List ℕ) (w t : ℕ) (D : List ℕ) (e : ℕ) (x : e ≡ lowest (length D) (strange top bottom D)) where
   -- 13
   pub entry-at : (r : Checked) → e < length D → r ≡ refusal 13 e → r ≡ entriesChecked top bottom w t D
-  unfolding entriesChecked
-  entry-at r l is = found 13 (length D) (strange top bottom D) e r _ x l is
+  unfolding entriesRefused place
+  entry-at r l is =
+      at-place top bottom w t D 12 (entriesRefused top bottom w t D) e r (rw (some-found (length D) (strange top bottom D) e x l)) x is
 
   module _ (e′ : length D ≤ e) where
     -- the entries are nets, so they are at most 256
@@ -89,58 +142,105 @@ module _ (top bottom : List ℕ) (w t : ℕ) (D : List ℕ) (e : ℕ) (x : e ≡
             (strange-not top bottom D i (lowest-all (length D) (strange top bottom D) (omega arith) i l))))
             (λ l. omega (arith, List·getD-eq-default D 0 {n = i} (omega arith)))
 
+    -- past 13
+    no-entry : some (length D) (strange top bottom D) ≡ false
+    no-entry = none-found (length D) (strange top bottom D) e x e′
+
     module _ (p : ℕ) (y : p ≡ lowest (length D) (mispinned top bottom t D)) where
       -- 14
       pub pin-at : (r : Checked) → p < length D → r ≡ refusal 14 p → r ≡ entriesChecked top bottom w t D
-      unfolding entriesChecked
-      pin-at r l is = past 13 (length D) (strange top bottom D) e r _ x e′ (found 14 (length D) (mispinned top bottom t D) p r _ y l is)
+      unfolding entriesRefused place
+      pin-at r l is =
+          at-place top bottom w t D 13 (entriesRefused top bottom w t D) p r
+          (rw (no-entry, some-found (length D) (mispinned top bottom t D) p y l)) y is
 
-      module _ (p′ : length D ≤ p) (q : ℕ) (z : q ≡ lowest (length D) (loose w t D)) where
-        -- past 13 and 14
-        pinned :
-            (r : Checked) → r ≡ firstOf 15 (length D) (loose w t D) (firstOf 16 257 (split t D) Passed) → r ≡ entriesChecked top bottom w t D
-        unfolding entriesChecked
-        pinned r is = past 13 (length D) (strange top bottom D) e r _ x e′ (past 14 (length D) (mispinned top bottom t D) p r _ y p′ is)
+      module _ (p′ : length D ≤ p) (q : ℕ) (z : q ≡ lowest (length D) (leavesLast w t D)) where
+        -- past 14
+        no-pin : some (length D) (mispinned top bottom t D) ≡ false
+        no-pin = none-found (length D) (mispinned top bottom t D) p y p′
 
         -- 15
         pub last-at : (r : Checked) → q < length D → r ≡ refusal 15 q → r ≡ entriesChecked top bottom w t D
-        last-at r l is = pinned r (found 15 (length D) (loose w t D) q r _ z l is)
+        unfolding entriesRefused place
+        last-at r l is =
+            at-place top bottom w t D 14 (entriesRefused top bottom w t D) q r
+            (rw (no-entry, no-pin, some-found (length D) (leavesLast w t D) q z l)) z is
 
         module _ (q′ : length D ≤ q) (n : ℕ) (s : n ≡ lowest 257 (split t D)) where
+          -- past 15
+          no-last : some (length D) (leavesLast w t D) ≡ false
+          no-last = none-found (length D) (leavesLast w t D) q z q′
+
           -- 16
           pub split-at : (r : Checked) → n < 257 → r ≡ refusal 16 n → r ≡ entriesChecked top bottom w t D
-          split-at r l is = pinned r (past 15 (length D) (loose w t D) q r _ z q′ (found 16 257 (split t D) n r _ s l is))
+          unfolding entriesRefused place
+          split-at r l is =
+              at-place top bottom w t D 15 (entriesRefused top bottom w t D) n r
+              (rw (no-entry, no-pin, no-last, some-found 257 (split t D) n s l)) s is
 
           -- none
           pub all-passed : 257 ≤ n → Passed ≡ entriesChecked top bottom w t D
-          all-passed l = pinned Passed (past 15 (length D) (loose w t D) q Passed _ z q′ (past 16 257 (split t D) n Passed _ s l refl))
+          unfolding entriesRefused
+          all-passed l =
+              same-answer top bottom w t D 0 (entriesRefused top bottom w t D) Passed
+              (rw (no-entry, no-pin, no-last, none-found 257 (split t D) n s l)) refl
+
+-- the rows' numbers are at most 7
+pub rows-low : (top bottom : List ℕ) (most : ℕ) → rowsRefused top bottom most ≤ 7
+unfolding rowsRefused
+rows-low top bottom most =
+    go (not (eqb (length top) (length bottom))) (ltb most (length top)) (over top || over bottom)
+    (not (eqb (count (λ v. eqb (pins top bottom v) 1) 256) 0))
+  where
+    go : (a b c d : Bool) → pick a 4 (pick b 5 (pick c 6 (pick d 7 0))) ≤ 7
+    go true b c d = omega arith
+    go false true c d = omega arith
+    go false false true d = omega arith
+    go false false false true = omega arith
+    go false false false false = omega arith
+
+-- a number that is not 0 comes first
+first-here : (k m : ℕ) → k ≢ 0 → firstRefusal k m ≡ k
+first-here zero m n = absurd (n refl)
+first-here (suc k) m n = refl
 
 module _ (top bottom : List ℕ) where
   -- 4 to 7
   pub rows-refused :
-      (w t : ℕ) (D : List ℕ) (r : Checked) (rows : RowCheck) (k j : ℕ)
-      → rows ≡ rowCheck top bottom 256 → rows ≡ Refused j → k ≡ numberOf rows → r ≡ refusal k 0 → r ≡ checked top bottom w t D
-  unfolding checked
-  rows-refused w t D r rows k j e f n is =
-      let o : k ≡ rowsRefused top bottom 256 = n ∙ ap numberOf e ∙ check-number top bottom 256 in
-      rw (ne-eqb (rowsRefused top bottom 256) 0 (refused top bottom 256 rows j e f), ← o) is
+      (w t : ℕ) (D : List ℕ) (r : Checked) (answered : RowCheck) (k j : ℕ)
+      → answered ≡ rowCheck top bottom 256 → answered ≡ Refused j → k ≡ rows.numberOf answered → r ≡ refusal k 0 → r ≡ checked top bottom w t D
+  unfolding checked refused
+  rows-refused w t D r answered k j e f n is = go k (n ∙ ap rows.numberOf e ∙ check-number top bottom 256) is
+    where
+      not-zero : rowsRefused top bottom 256 ≢ 0
+      not-zero = answers.refused top bottom 256 answered j e f
 
-  module _ (rows : RowCheck) (s : Size) (e : rows ≡ rowCheck top bottom 256) (f : rows ≡ Fit s) where
+      go :
+          (k : ℕ) → k ≡ rowsRefused top bottom 256 → r ≡ refusal k 0
+          → r ≡ answer top bottom w t D (firstRefusal (rowsRefused top bottom 256) (drawingRefused top bottom w t D))
+      go zero o i = absurd (not-zero (sym o))
+      go (suc k) o i =
+          no-place top bottom w t D k (firstRefusal (rowsRefused top bottom 256) (drawingRefused top bottom w t D)) r
+          (omega (arith, rows-low top bottom 256))
+          (first-here (rowsRefused top bottom 256) (drawingRefused top bottom w t D) not-zero ∙ sym o) i
+
+  module _ (answered : RowCheck) (s : Size) (e : answered ≡ rowCheck top bottom 256) (f : answered ≡ Fit s) where
     -- the rows are accepted
     accepted-rows : rowsRefused top bottom 256 ≡ 0
-    accepted-rows = told top bottom 256 rows s e f .number
+    accepted-rows = told top bottom 256 answered s e f .number
 
     -- accepted rows: the drawing is checked
     pub rows-accepted : (w t : ℕ) (D : List ℕ) (r : Checked) → r ≡ drawingChecked top bottom w t D → r ≡ checked top bottom w t D
-    unfolding checked
-    rows-accepted w t D r is = rw (eq-eqb (rowsRefused top bottom 256) 0 accepted-rows) is
+    unfolding checked refused
+    rows-accepted w t D r is =
+        same-answer top bottom w t D (drawingRefused top bottom w t D) (firstRefusal (rowsRefused top bottom 256) (drawingRefused top bottom w t D)) r
+        (ap (λ (k : ℕ). firstRefusal k (drawingRefused top bottom w t D)) accepted-rows) is
 
     -- with the table of their pins
-    pub known : (new old : List ℕ) → new ≡ kept (refusedWithin top bottom 256) (table (pins top bottom)) old → Known top bottom new
+    pub known : (new old : List ℕ) → new ≡ ifAccepted (rows.numberOf answered) (table (pins top bottom)) old → Known top bottom new
     known new old o =
-        let x : new ≡ table (pins top bottom) =
-        o ∙ kept-new (refusedWithin top bottom 256) (table (pins top bottom)) old accepted-rows
-        in
+        let n : rows.numberOf answered ≡ 0 = ap rows.numberOf e ∙ check-number top bottom 256 ∙ accepted-rows in
+        let x : new ≡ table (pins top bottom) = o ∙ accepted-new (rows.numberOf answered) (table (pins top bottom)) old n in
         rw x
         (record {
           long = table-length (pins top bottom);

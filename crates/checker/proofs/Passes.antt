@@ -1,5 +1,5 @@
 -- The checker passes exactly the solutions: `passes`.
-use Prim.Native.Nat.{ℕ, suc, _+_, _*_, _/_, _%_, _≤_, _<_}
+use Prim.Native.Nat.{ℕ, zero, suc, _+_, _*_, _/_, _%_, _≤_, _<_}
 use mathlib.Core.Path.{_≡_, refl, sym, _∙_, ap}
 use mathlib.Core.Logic.{_≢_, _↔_, _⊎_, ⊎-elim, by-cases}
 use mathlib.Core.Bool.{Bool, true, false}
@@ -10,60 +10,72 @@ use native.Mathlib.Omega.{arith}
 use native.Mathlib.Decide.{decLe, decLt}
 use native.Mathlib.Nat.{mod-lt, div-add-mod', mul-le-mul-right}
 use Rattle.grid.specs.Channel.{pick, pins, rowsRefused}
+use Rattle.grid.specs.Refusals.{firstRefusal}
 use Rattle.grid.specs.Grid.{OnePiece, verticalOf, horizontalOf, Solution}
-use Rattle.grid.proofs.Tests.{eq-eqb, eqb-true, eqb-false, le-ltb, ltb-false, not-true, not-false, or-false}
-use Rattle.grid.proofs.Rows.{rows-fit}
+use Rattle.grid.proofs.Tests.{eq-eqb, eqb-true, eqb-false, le-ltb, ltb-false, not-true, not-false, or-false, pick-past}
+use Rattle.grid.proofs.Rows.{RowsFit, rows-fit}
 use Rattle.checker.specs.declared.Checked.{Checked}
 use Rattle.checker.specs.declared.Checked.the-variants.{Passed}
-use Rattle.checker.specs.Check.{numberOf, refusal, lowest, wrongWidth, manyTracks, wrongSize, strange, mispinned, loose, split}
-use Rattle.checker.specs.Check.{entriesChecked, drawingChecked, checked}
+use Rattle.checker.specs.Check.{numberOf, checkedBy, lowest, some, wrongWidth, manyTracks, wrongSize, strange, mispinned, leavesLast, split}
+use Rattle.checker.specs.Check.{entriesRefused, drawingRefused, refused, place, checked}
 use Rattle.checker.specs.Pieces.Edges.{vert-at, horz-at, horz-out, inside, netOf}
 use Rattle.checker.specs.Pieces.Exact.{Edge, edge, edge-of}
+use Rattle.checker.proofs.Answers.{check-parts}
 use Rattle.checker.proofs.Lowest.{lowest-none, lowest-all}
 use Rattle.checker.proofs.entries.Nets.{strange-not, not-strange}
-use Rattle.checker.proofs.entries.Pins.{pinned-at, at-pinned}
+use Rattle.checker.proofs.entries.Pins.{pinned-at, at-pinned, column-below}
 use Rattle.checker.proofs.entries.Last.{last-zero, zero-last}
 use Rattle.checker.proofs.pieces.Splits.{split-not, not-split}
 
 -- no refusal of the table applies
 record Fine (top bottom : List ℕ) (w t : ℕ) (D : List ℕ) : Type 0 where
-  rows : eqb (rowsRefused top bottom 256) 0 ≡ true
+  rows : rowsRefused top bottom 256 ≡ 0
   width : wrongWidth top w ≡ false
   tracks : manyTracks t ≡ false
   size : wrongSize w t D ≡ false
-  entry : ltb (lowest (length D) (strange top bottom D)) (length D) ≡ false
-  pin : ltb (lowest (length D) (mispinned top bottom t D)) (length D) ≡ false
-  last : ltb (lowest (length D) (loose w t D)) (length D) ≡ false
-  piece : ltb (lowest 257 (split t D)) 257 ≡ false
+  entry : some (length D) (strange top bottom D) ≡ false
+  pin : some (length D) (mispinned top bottom t D) ≡ false
+  last : some (length D) (leavesLast w t D) ≡ false
+  piece : some 257 (split t D) ≡ false
 
--- then the drawing is passed
-fine-passed : (top bottom : List ℕ) (w t : ℕ) (D : List ℕ) → Fine top bottom w t D → checked top bottom w t D ≡ Passed
-unfolding checked drawingChecked entriesChecked
-fine-passed top bottom w t D f = rw (f .rows, f .width, f .tracks, f .size, f .entry, f .pin, f .last, f .piece)
+-- then the number is 0
+fine-zero : (top bottom : List ℕ) (w t : ℕ) (D : List ℕ) → Fine top bottom w t D → refused top bottom w t D ≡ 0
+unfolding refused drawingRefused entriesRefused
+fine-zero top bottom w t D f = rw (f .rows, f .width, f .tracks, f .size, f .entry, f .pin, f .last, f .piece)
+
+-- the first number is 0 only if both are
+first-past : (k m : ℕ) → firstRefusal k m ≡ 0 → (k ≡ 0) × (m ≡ 0)
+first-past zero m e = (refl, e)
+first-past (suc k) m e = absurd (omega arith)
 
 -- the numbers of the table are not 0
 positive : (k : ℕ) → suc k ≢ 0
 positive k = omega arith
 
--- a place of the table that a drawing with the number 0 leaves behind
-left-behind : (b : Bool) (k p : ℕ) (r : Checked) → numberOf (pick b (refusal k p) r) ≡ 0 → (b ≡ true → k ≢ 0) → (b ≡ false) × (numberOf r ≡ 0)
-left-behind true k p r e n = absurd (n refl e)
-left-behind false k p r e n = (refl, e)
-
--- and back, from the number alone
-zero-fine : (top bottom : List ℕ) (w t : ℕ) (D : List ℕ) → numberOf (checked top bottom w t D) ≡ 0 → Fine top bottom w t D
-unfolding checked drawingChecked entriesChecked
+-- and back
+zero-fine : (top bottom : List ℕ) (w t : ℕ) (D : List ℕ) → refused top bottom w t D ≡ 0 → Fine top bottom w t D
+unfolding refused drawingRefused entriesRefused
 zero-fine top bottom w t D e =
-    let k = rowsRefused top bottom 256 in
-    let (f₀, e₀) = left-behind _ k 0 _ e (λ b. eqb-false k 0 (not-true (eqb k 0) b)) in
-    let (f₁, e₁) = left-behind _ 10 _ _ e₀ (λ b. positive 9) in
-    let (f₂, e₂) = left-behind _ 11 _ _ e₁ (λ b. positive 10) in
-    let (f₃, e₃) = left-behind _ 12 _ _ e₂ (λ b. positive 11) in
-    let (f₄, e₄) = left-behind _ 13 _ _ e₃ (λ b. positive 12) in
-    let (f₅, e₅) = left-behind _ 14 _ _ e₄ (λ b. positive 13) in
-    let (f₆, e₆) = left-behind _ 15 _ _ e₅ (λ b. positive 14) in
-    let (f₇, e₇) = left-behind _ 16 _ _ e₆ (λ b. positive 15) in
-    record { rows = not-false (eqb k 0) f₀; width = f₁; tracks = f₂; size = f₃; entry = f₄; pin = f₅; last = f₆; piece = f₇ }
+    let (f₀, e₀) = first-past (rowsRefused top bottom 256) _ e in
+    let (f₁, e₁) = pick-past _ 10 _ (positive 9) e₀ in
+    let (f₂, e₂) = pick-past _ 11 _ (positive 10) e₁ in
+    let (f₃, e₃) = pick-past _ 12 _ (positive 11) e₂ in
+    let (f₄, e₄) = pick-past _ 13 _ (positive 12) e₃ in
+    let (f₅, e₅) = pick-past _ 14 _ (positive 13) e₄ in
+    let (f₆, e₆) = pick-past _ 15 _ (positive 14) e₅ in
+    let (f₇, e₇) = pick-past _ 16 _ (positive 15) e₆ in
+    record { rows = f₀; width = f₁; tracks = f₂; size = f₃; entry = f₄; pin = f₅; last = f₆; piece = f₇ }
+
+-- a number over 256 has no edge, of accepted rows and entries that are 0 or nets: it is one piece
+pub over-whole : (top bottom : List ℕ) (t : ℕ) (D : List ℕ) → RowsFit top bottom
+    → ((p : ℕ) → p < length D → (getD D p 0 ≡ 0) ⊎ (0 < pins top bottom (getD D p 0))) → (N : ℕ) → 256 < N
+    → OnePiece (verticalOf D t) (horizontalOf D t) N
+over-whole top bottom t D fit nets N l = record { linked = λ a b. absurd (no-edge (edge-of D t (omega arith) a)) }
+  where
+    no-edge : {x y : ℕ} → Edge D t N x y → ⊥
+    no-edge (edge p a e) =
+        let s = fit .small (getD D p 0) (omega arith) in
+        ⊎-elim (λ (z : getD D p 0 ≡ 0). omega arith) (λ (z : 0 < pins top bottom (getD D p 0)). omega arith) (nets p (inside D t p (omega arith)))
 
 module _ (top bottom : List ℕ) (w t : ℕ) (D : List ℕ) where
   module _ (f : Fine top bottom w t D) where
@@ -93,28 +105,22 @@ module _ (top bottom : List ℕ) (w t : ℕ) (D : List ℕ) where
         (λ l.
         horz-at D t x j l
         ∙ last-zero w t D x j e l
-        (lowest-all (length D) (loose w t D) (ltb-false (lowest (length D) (loose w t D)) (length D) (f .last))
+        (lowest-all (length D) (leavesLast w t D) (ltb-false (lowest (length D) (leavesLast w t D)) (length D) (f .last))
         (x * (2 * t + 1) + t + 1 + j) (omega (arith, size-is))))
         (λ l. horz-out D t x j (omega arith))
-
-    -- a number over 256 has no edge
-    no-edge : (N : ℕ) → 256 < N → {x y : ℕ} → Edge D t N x y → ⊥
-    no-edge N l (edge p a e) =
-        let s = rows-fit top bottom (eqb-true (rowsRefused top bottom 256) 0 (f .rows)) .small (getD D p 0) (omega arith) in
-        ⊎-elim (λ (z : getD D p 0 ≡ 0). omega arith) (λ (z : 0 < pins top bottom (getD D p 0)). omega arith) (nets-are p (inside D t p (omega arith)))
 
     -- each net is one piece
     whole : (N : ℕ) → N ≢ 0 → OnePiece (verticalOf D t) (horizontalOf D t) N
     whole N n =
         by-cases (decLe N 256)
         (λ l. split-not t D N n (lowest-all 257 (split t D) (ltb-false (lowest 257 (split t D)) 257 (f .piece)) N (omega arith)))
-        (λ l. record { linked = λ a b. absurd (no-edge N (omega arith) (edge-of D t n a)) })
+        (λ l. over-whole top bottom t D (rows-fit top bottom (f .rows)) nets-are N (omega arith))
 
     -- so the drawing is a solution within the limits
     fine-solution : (rowsRefused top bottom 256 ≡ 0) × (w ≤ 511) × (t ≤ 511) × Solution top bottom w t D
     fine-solution =
         let (narrow, few) = or-false (ltb w (length top)) (ltb 511 w) (f .width) in (
-          eqb-true (rowsRefused top bottom 256) 0 (f .rows),
+          f .rows,
           ltb-false 511 w few,
           ltb-false 511 t (f .tracks),
           record {
@@ -130,7 +136,7 @@ module _ (top bottom : List ℕ) (w t : ℕ) (D : List ℕ) where
 
   module _ (S : Solution top bottom w t D) where
     -- where no number below n passes a test the search finds none
-    no-low : (n : ℕ) (P : ℕ → Bool) → ((k : ℕ) → k < n → P k ≡ false) → ltb (lowest n P) n ≡ false
+    no-low : (n : ℕ) (P : ℕ → Bool) → ((k : ℕ) → k < n → P k ≡ false) → some n P ≡ false
     no-low n P h = le-ltb (lowest n P) n (omega (arith, lowest-none n P h))
 
     -- every position has the pins of its column
@@ -139,35 +145,44 @@ module _ (top bottom : List ℕ) (w t : ℕ) (D : List ℕ) where
         let x = p / (2 * t + 1) in
         let i = p % (2 * t + 1) in
         let e : x * (2 * t + 1) + i ≡ p = div-add-mod' p (2 * t + 1) in
-        let k : x < w = column-below x i (omega (arith, S .size)) in
+        let k : x < w = column-below w t x i (omega (arith, S .size)) in
         pinned-at top bottom t D p x i (mod-lt p {m = 2 * t + 1} (omega arith)) (sym e)
         (λ o. ap (netOf D) (omega arith) ∙ sym (vert-at D t x 0 (omega arith)) ∙ S .bottomPins x k)
         (λ o. ap (netOf D) (omega arith) ∙ sym (vert-at D t x t (omega arith)) ∙ S .topPins x k)
-      where
-        column-below : (x i : ℕ) → x * (2 * t + 1) + i < w * (2 * t + 1) → x < w
-        column-below x i l =
-            by-cases (decLt x w) (λ z. z) (λ z. let k : w ≤ x = omega arith in absurd (omega (arith, mul-le-mul-right (2 * t + 1) k)))
 
     -- so no refusal applies
     solution-fine : rowsRefused top bottom 256 ≡ 0 → w ≤ 511 → t ≤ 511 → Fine top bottom w t D
     solution-fine r a b = record {
-      rows = eq-eqb (rowsRefused top bottom 256) 0 r;
+      rows = r;
       width = rw (le-ltb w (length top) (S .wide)) (le-ltb 511 w a);
       tracks = le-ltb 511 t b;
       size = rw (eq-eqb (length D) (w * (2 * t + 1)) (S .size));
       entry = no-low (length D) (strange top bottom D) (λ p l. not-strange top bottom D p (S .nets p l));
       pin = no-low (length D) (mispinned top bottom t D) all-pinned;
-      last = no-low (length D) (loose w t D) (λ p l. zero-last w t D (λ x j e k. sym (horz-at D t x j k) ∙ S .last x j e) p);
+      last = no-low (length D) (leavesLast w t D) (λ p l. zero-last w t D (λ x j e k. sym (horz-at D t x j k) ∙ S .last x j e) p);
       piece = no-low 257 (split t D) (λ N l. not-split t D N (S .pieces N));
     }
 
-  -- the checker passes a drawing precisely when the rows are accepted, w and t are at most 511 and the drawing is a solution
-  pub passes : (checked top bottom w t D ≡ Passed) ↔ ((rowsRefused top bottom 256 ≡ 0) × (w ≤ 511) × (t ≤ 511) × Solution top bottom w t D)
-  passes = (
-    λ e. fine-solution (zero-fine top bottom w t D (ap numberOf e)),
-    λ (r, a, b, S). fine-passed top bottom w t D (solution-fine S r a b),
+  -- the number is 0 precisely when the rows are accepted, w and t are at most 511 and the drawing is a solution
+  pub zero-passes : (refused top bottom w t D ≡ 0) ↔ ((rowsRefused top bottom 256 ≡ 0) × (w ≤ 511) × (t ≤ 511) × Solution top bottom w t D)
+  zero-passes = (
+    λ e. fine-solution (zero-fine top bottom w t D e),
+    λ (r, a, b, S). fine-zero top bottom w t D (solution-fine S r a b),
   )
 
   -- only a drawing that passes has the number 0
   pub passed-number : (numberOf (checked top bottom w t D) ≡ 0) ↔ (checked top bottom w t D ≡ Passed)
-  passed-number = (λ e. fine-passed top bottom w t D (zero-fine top bottom w t D e), λ e. ap numberOf e)
+  unfolding checked
+  passed-number = (
+    λ e.
+        let z : refused top bottom w t D ≡ 0 = sym (check-parts top bottom w t D .0) ∙ e in
+        ap (λ (k : ℕ). checkedBy k (place top bottom w t D k)) z,
+    λ e. ap numberOf e,
+  )
+
+  -- so the checker passes a drawing precisely then
+  pub passes : (checked top bottom w t D ≡ Passed) ↔ ((rowsRefused top bottom 256 ≡ 0) × (w ≤ 511) × (t ≤ 511) × Solution top bottom w t D)
+  passes = (
+    λ e. zero-passes .0 (sym (check-parts top bottom w t D .0) ∙ ap numberOf e),
+    λ s. passed-number .0 (check-parts top bottom w t D .0 ∙ zero-passes .1 s),
+  )

@@ -1,5 +1,5 @@
--- Document 01, "Refused, by place": the checker's answer, "checked from the top down", for the rows, the width w, the number of tracks t and the lent
--- layout D. A position p is counted from 0; it lies in column p / (2t + 1), counted from 0, and is entry p % (2t + 1) of it.
+-- Document 01, "Refused, by place": the checker's number, "checked from the top down", and its place, for the rows, the width w, the number of tracks t
+-- and the lent layout D. A position p is counted from 0; it lies in column p / (2t + 1), counted from 0, and is entry p % (2t + 1) of it.
 use Prim.Native.Nat.{ℕ, zero, suc, _+_, _*_, _/_, _%_}
 use mathlib.Core.Bool.{Bool, true, false, not, _&&_, _||_}
 use mathlib.Core.List.{List}
@@ -7,33 +7,38 @@ use lib.ListN.{length, getD}
 use lib.Dec.{eqb, ltb}
 use native.Mathlib.Omega.{arith}
 use Rattle.grid.specs.Channel.{pick, pins, rowsRefused}
+use Rattle.grid.specs.Refusals.{firstRefusal}
 use Rattle.checker.specs.declared.Checked.{Checked}
 use Rattle.checker.specs.declared.Checked.the-variants.{Passed, Refused}
 use Rattle.checker.specs.Pieces.Exact.{whole?}
 
--- the number of each answer: "The number on acceptance is 0."
+-- THE ANSWER'S NUMBER AND PLACE
+-- "a definition gives this paper's number and values for each of the enum's cases": the number, "The number on acceptance is 0."
 abbrev pub numberOf : Checked → ℕ
 numberOf Passed = 0
 numberOf (Refused f) = f .number
 
--- and its place: "its place is 0 otherwise"
+-- and the place: "its place is 0 otherwise"
 abbrev pub placeOf : Checked → ℕ
 placeOf Passed = 0
 placeOf (Refused f) = f .place
 
--- the refusal of a number with a place
-abbrev pub refusal : (number place : ℕ) → Checked
-refusal k p = Refused (record { number = k; place = p })
+-- the answer with a number and a place: "A refusal returns its number and zeros for every other figure but the place."
+abbrev pub checkedBy : (number place : ℕ) → Checked
+checkedBy zero place = Passed
+checkedBy (suc k) place = Refused (record { number = suc k; place = place })
 
--- the lowest number below n that passes a test, else n
+-- THE LOWEST
+-- "the lowest entry position", "the lowest net number": the lowest number below n that passes a test, else n
 unfoldable pub lowest : (n : ℕ) → (ℕ → Bool) → ℕ
 lowest zero P = 0
 lowest (suc n) P = pick (ltb (lowest n P) n) (lowest n P) (pick (P n) n (suc n))
 
--- refused with a number if some number below n passes a test, at the lowest, else the rest of the table
-abbrev pub firstOf : (number n : ℕ) → (ℕ → Bool) → Checked → Checked
-firstOf k n P rest = pick (ltb (lowest n P) n) (refusal k (lowest n P)) rest
+-- some number below n passes a test
+abbrev pub some : (n : ℕ) → (ℕ → Bool) → Bool
+some n P = ltb (lowest n P) n
 
+-- THE LINES OF THE TABLE
 -- 10: "w under n or over 511"
 abbrev pub wrongWidth : (top : List ℕ) (w : ℕ) → Bool
 wrongWidth top w = ltb w (length top) || ltb 511 w
@@ -61,12 +66,12 @@ mispinned top bottom t D p =
     pinWrong t (getD top (p / (2 * t + 1)) 0) (getD bottom (p / (2 * t + 1)) 0) (getD D p 0) (p % (2 * t + 1))
 
 -- 15: "horizontal edge in the last column": an entry e, number i of column x, lies in the last column after the vertical entries and is an edge
-abbrev pub leaves : (w t x i e : ℕ) → Bool
-leaves w t x i e = eqb (suc x) w && (ltb t i && not (eqb e 0))
+abbrev pub lastEdge : (w t x i e : ℕ) → Bool
+lastEdge w t x i e = eqb (suc x) w && (ltb t i && not (eqb e 0))
 
 -- at position p
-abbrev pub loose : (w t : ℕ) (D : List ℕ) (p : ℕ) → Bool
-loose w t D p = leaves w t (p / (2 * t + 1)) (p % (2 * t + 1)) (getD D p 0)
+abbrev pub leavesLast : (w t : ℕ) (D : List ℕ) (p : ℕ) → Bool
+leavesLast w t D p = lastEdge w t (p / (2 * t + 1)) (p % (2 * t + 1)) (getD D p 0)
 
 -- no is a refusal
 abbrev pub isNo : {A : Type 0} → Dec A → Bool
@@ -78,25 +83,39 @@ unfoldable pub split : (t : ℕ) (D : List ℕ) (N : ℕ) → Bool
 split t D zero = false
 split t D (suc N) = isNo (whole? D t (suc N) (omega arith))
 
--- 13 to 16, of a drawing of the right size: "For 13 to 15 the checker adds the lowest entry position, from 0; for 16 the lowest net number"
-unfoldable pub entriesChecked : (top bottom : List ℕ) (w t : ℕ) (D : List ℕ) → Checked
-entriesChecked top bottom w t D =
-    firstOf 13 (length D) (strange top bottom D)
-    (firstOf 14 (length D) (mispinned top bottom t D)
-    (firstOf 15 (length D) (loose w t D)
-    (firstOf 16 257 (split t D)
-    Passed)))
+-- WHAT IT ANSWERS
+module _ (top bottom : List ℕ) (w t : ℕ) (D : List ℕ) where
+  -- the number, "checked from the top down": of the entries and the pieces, 13 to 16
+  unfoldable pub entriesRefused : ℕ
+  entriesRefused =
+      pick (some (length D) (strange top bottom D)) 13
+      (pick (some (length D) (mispinned top bottom t D)) 14
+      (pick (some (length D) (leavesLast w t D)) 15
+      (pick (some 257 (split t D)) 16
+      0)))
 
--- 10 to 16, of accepted rows
-unfoldable pub drawingChecked : (top bottom : List ℕ) (w t : ℕ) (D : List ℕ) → Checked
-drawingChecked top bottom w t D =
-    pick (wrongWidth top w) (refusal 10 0)
-    (pick (manyTracks t) (refusal 11 0)
-    (pick (wrongSize w t D) (refusal 12 0)
-    (entriesChecked top bottom w t D)))
+  -- of the drawing, 10 to 16
+  unfoldable pub drawingRefused : ℕ
+  drawingRefused =
+      pick (wrongWidth top w) 10
+      (pick (manyTracks t) 11
+      (pick (wrongSize w t D) 12
+      entriesRefused))
 
--- the whole table: the rows' numbers 4 to 7, 5 "over 256 columns", then the drawing's
-unfoldable pub checked : (top bottom : List ℕ) (w t : ℕ) (D : List ℕ) → Checked
-checked top bottom w t D =
-    pick (not (eqb (rowsRefused top bottom 256) 0)) (refusal (rowsRefused top bottom 256) 0)
-    (drawingChecked top bottom w t D)
+  -- of the whole table: the rows' 4 to 7, with 5 "over 256 columns", then the drawing's; "The number on acceptance is 0."
+  unfoldable pub refused : ℕ
+  refused = firstRefusal (rowsRefused top bottom 256) drawingRefused
+
+  -- the place that goes with a number: "For 13 to 15 the checker adds the lowest entry position, from 0; for 16 the lowest net number; its place is 0
+  -- otherwise."
+  unfoldable pub place : (number : ℕ) → ℕ
+  place k =
+      pick (eqb k 13) (lowest (length D) (strange top bottom D))
+      (pick (eqb k 14) (lowest (length D) (mispinned top bottom t D))
+      (pick (eqb k 15) (lowest (length D) (leavesLast w t D))
+      (pick (eqb k 16) (lowest 257 (split t D))
+      0)))
+
+  -- the checker's answer, by its number and the place that goes with it
+  unfoldable pub checked : Checked
+  checked = checkedBy refused (place refused)

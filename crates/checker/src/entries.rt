@@ -4,11 +4,11 @@ ghost use mathlib.Core.Bool.{true, false};
 ghost use Prim.Native.Nat.{ℕ, _+_, _*_, _-_, _≤_, _<_};
 ghost use lib.ListN.{length, getD};
 ghost use Rattle.grid.specs.Channel.{over};
-ghost use Rattle.checker.specs.Check.{lowest, strange, mispinned, loose};
+ghost use Rattle.checker.specs.Check.{lowest, strange, mispinned, leavesLast};
 ghost use Rattle.checker.specs.Entries.{Known, unknown, AllKnown, Marks};
 
 // An entry, 0 past the end.
-pub fn entry(layout: &[u16], i: usize) -> u16
+pub(crate) fn entry(layout: &[u16], i: usize) -> u16
     ensures { λ r. ⌜ r ≡ getD (now (layout .entry)) i 0 ⌝ }
 {
     if i < layout.len() { layout[i] } else { 0 }
@@ -86,7 +86,7 @@ fn all_known(layout: &[u16], pins: &[u16; 257]) -> bool
 }
 
 // The lowest entry that is neither 0 nor a net, else the length.
-pub fn find_strange(top: &[u16], bottom: &[u16], layout: &[u16], pins: &[u16; 257]) -> usize
+pub(crate) fn find_strange(top: &[u16], bottom: &[u16], layout: &[u16], pins: &[u16; 257]) -> usize
     requires { ⌜ Known (now top) (now bottom) (now pins) ⌝ }
     ensures { λ r. ⌜ r ≡ lowest (length (now (layout .entry))) (strange (now (top .entry)) (now (bottom .entry)) (now (layout .entry))) ⌝ }
 {
@@ -97,7 +97,7 @@ pub fn find_strange(top: &[u16], bottom: &[u16], layout: &[u16], pins: &[u16; 25
 }
 
 // The lowest pin entry that is not its pin, else the length.
-pub fn find_pin(top: &[u16], bottom: &[u16], w: usize, t: usize, layout: &[u16]) -> usize
+pub(crate) fn find_pin(top: &[u16], bottom: &[u16], w: usize, t: usize, layout: &[u16]) -> usize
     requires { ⌜ length (now layout) ≡ w * (2 * t + 1) ⌝ }
     requires { ⌜ w ≤ 511 ⌝ }
     requires { ⌜ t ≤ 511 ⌝ }
@@ -128,9 +128,9 @@ fn less(n: usize, t: usize) -> usize
 }
 
 // The lowest horizontal edge of the last column, else the length. They are the last t entries.
-pub fn find_last(w: usize, t: usize, layout: &[u16]) -> usize
+pub(crate) fn find_last(w: usize, t: usize, layout: &[u16]) -> usize
     requires { ⌜ length (now layout) ≡ w * (2 * t + 1) ⌝ }
-    ensures { λ r. ⌜ r ≡ lowest (length (now (layout .entry))) (loose w t (now (layout .entry))) ⌝ }
+    ensures { λ r. ⌜ r ≡ lowest (length (now (layout .entry))) (leavesLast w t (now (layout .entry))) ⌝ }
 {
     let mut i = less(layout.len(), t);
     while i < layout.len() {

@@ -6,7 +6,8 @@ use grid::RowCheck;
 ghost use mathlib.Core.Path.{_≡_};
 ghost use Prim.Native.Nat.{_+_, _*_, _≤_};
 ghost use lib.ListN.{length};
-ghost use Rattle.checker.specs.Check.{numberOf, placeOf, refusal, entriesChecked, drawingChecked, checked};
+ghost use Rattle.checker.specs.Check.{numberOf, placeOf, refused, place, checked};
+ghost use Rattle.checker.specs.Working.{refusal, entriesChecked, drawingChecked};
 ghost use Rattle.checker.specs.Entries.{Known};
 
 // The number of a refusal, and its place: of 13 to 15 the lowest entry position, from 0, of 16 the lowest net number, else 0.
@@ -115,7 +116,9 @@ fn zeros() -> [u16; 257] {
 
 // Checks a drawing of w columns and t tracks against the rows of a channel.
 pub fn check(top: &[u16], bottom: &[u16], w: usize, t: usize, layout: &[u16]) -> Checked
-    ensures { λ r. ⌜ r ≡ checked (now (top .entry)) (now (bottom .entry)) w t (now (layout .entry)) ⌝ }
+    ensures answer { λ r. ⌜ r ≡ checked (now (top .entry)) (now (bottom .entry)) w t (now (layout .entry)) ⌝ }
+    ensures number { λ r. ⌜ numberOf r ≡ refused (now (top .entry)) (now (bottom .entry)) w t (now (layout .entry)) ⌝ }
+    ensures place { λ r. ⌜ placeOf r ≡ place (now (top .entry)) (now (bottom .entry)) w t (now (layout .entry)) (numberOf r) ⌝ }
 {
     let mut first = zeros();
     let mut last = zeros();

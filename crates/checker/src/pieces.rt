@@ -306,7 +306,7 @@ fn find_many(begun: &[u32; 257], joined: &[u32; 257]) -> usize
 }
 
 // The lowest net in more than one piece, else 257.
-pub fn find_split(layout: &[u16], w: usize, t: usize) -> usize
+pub(crate) fn find_split(layout: &[u16], w: usize, t: usize) -> usize
     requires { ⌜ Drawn (now layout) w t ⌝ }
     ensures { λ r. ⌜ r ≡ lowest 257 (split t (now (layout .entry))) ⌝ }
 {

@@ -1,5 +1,9 @@
--- The demands are met.
-pub mod Numbers
-pub mod One
-pub mod Two
-pub mod Three
+-- The demands are met: `Table`, `Lines` and `Drawings` relate the libraries' numbers to the lines of the table; the others hold the theorems, named
+-- as in specs/.
+pub mod Table
+pub mod Lines
+pub mod Drawings
+pub mod Refusals
+pub mod Slices
+pub mod Solutions
+pub mod Tracks

@@ -1,5 +1,10 @@
--- The page to read first: the customer's demands, each a record of statements over the definitions of the libraries.
+-- The page to read first: what the customer asked, as statements over the definitions of the libraries. The theorems are in proofs/ under the same names.
+-- `Table` is document 01's table of refusals in its own words.
 pub mod Table
-pub mod One
-pub mod Two
-pub mod Three
+-- The first demand: `Refusals` says which number each call answers, and the zeros beside it; `Slices` what each lent slice holds afterwards.
+pub mod Refusals
+pub mod Slices
+-- The second demand: `Solutions`.
+pub mod Solutions
+-- The third demand, whole: `Tracks`.
+pub mod Tracks

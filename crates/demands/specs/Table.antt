@@ -1,57 +1,89 @@
--- Document 01, "Refused, by place": the table itself, line by line. "Checked from the top down; a call skips places that it lacks. The table lets a call
--- through when no number at any place that the call has applies."
-use Prim.Native.Nat.{ℕ, _+_, _*_, _/_}
-use mathlib.Core.Bool.{Bool, not, _||_}
-use mathlib.Core.List.{List, [], _∷_}
-use lib.Dec.{eqb, ltb}
-use lib.ListN.{length}
-use Rattle.grid.specs.Channel.{pick, count, over, pins, tracks}
-use Rattle.record.specs.Record.{wrongLength, wrongKind, wrongBody}
-use Rattle.checker.specs.Check.{lowest, wrongWidth, manyTracks, wrongSize, strange, mispinned, loose, split}
+-- Document 01, "Refused, by place": the table itself, line by line.
+use Prim.Native.Nat.{ℕ, _+_, _*_, _-_, _/_, _≤_, _<_}
+use mathlib.Core.Path.{_≡_}
+use mathlib.Core.Logic.{_≢_, _⊎_}
+use mathlib.Core.List.{List}
+use lib.ListN.{length, getD}
+use Rattle.grid.specs.Channel.{pins, tracks}
+use Rattle.checker.specs.Faults.{Strange, PinWrong, LeavesLast, Split}
+use Rattle.record.specs.Record.{word}
 
--- a line of the table: its number, and whether it applies
-pub record Line : Type 0 where
-  pub number : ℕ
-  pub applies : Bool
+-- the lines of a table: number, and when it applies
+pub data Table : Type 1 where
+  end : Table
+  line : (number : ℕ) (applies : Type 0) → Table → Table
 
-abbrev pub line : ℕ → Bool → Line
-line k b = record { number = k; applies = b }
+-- "Checked from the top down": k is the first number that applies, 0 for none
+unfoldable pub First : Table → ℕ → Type 0
+First end k = k ≡ 0
+First (line n A rest) k = (A × (k ≡ n)) ⊎ ((A → ⊥) × First rest k)
 
--- the first number that applies, 0 for none
-unfoldable pub first : List Line → ℕ
-first [] = 0
-first (l ∷ ls) = pick (l .applies) (l .number) (first ls)
+-- "The table lets a call through when no number at any place that the call has applies."
+unfoldable pub LetsThrough : Table → Type 0
+LetsThrough end = Unit {0}
+LetsThrough (line n A rest) = (A → ⊥) × LetsThrough rest
 
--- Record, of a call's bytes
-abbrev pub ofRecord : List ℕ → List Line → List Line
-ofRecord s rest = line 1 (wrongLength s) ∷ line 2 (wrongKind s) ∷ line 3 (wrongBody s) ∷ rest
+-- RECORD, of a call's bytes
+abbrev pub ofRecord : List ℕ → Table → Table
+ofRecord s rest =
+    -- "under 4 or over 1,030 bytes, or length field unequal to the bytes after it"
+    line 1 ((length s < 4) ⊎ ((1030 < length s) ⊎ (word s 0 ≢ length s - 2)))
+    -- "kind not 1"
+    (line 2 (word s 2 ≢ 1)
+    -- "body under 2 bytes, or not 2 + 4n bytes"
+    (line 3 ((length s - 4 < 2) ⊎ (length s - 4 ≢ 2 + 4 * word s 4))
+    rest))
+
+-- a number of a row is over 256
+abbrev pub Over : List ℕ → Type 0
+Over row = (i : ℕ) × (i < length row) × (256 < getD row i 0)
 
 module _ (top bottom : List ℕ) where
-  -- Rows: "lengths differ", "over 256 columns; in `knee` over 64", "a number over 256", "a net with one pin"
-  abbrev pub ofRows : (most : ℕ) → List Line → List Line
+  -- ROWS, with a limit of columns
+  abbrev pub ofRows : (most : ℕ) → Table → Table
   ofRows most rest =
-      line 4 (not (eqb (length top) (length bottom)))
-      ∷ line 5 (ltb most (length top))
-      ∷ line 6 (over top || over bottom)
-      ∷ line 7 (not (eqb (count (λ v. eqb (pins top bottom v) 1) 256) 0))
-      ∷ rest
+      -- "lengths differ"
+      line 4 (length top ≢ length bottom)
+      -- "over 256 columns; in `knee` over 64"
+      (line 5 (most < length top)
+      -- "a number over 256"
+      (line 6 (Over top ⊎ Over bottom)
+      -- "a net with one pin"
+      (line 7 ((v : ℕ) × (v ≢ 0) × (pins top bottom v ≡ 1))
+      rest)))
 
-  -- Lent slice: "layout shorter than (n + t/2 rounded down) × (2t + 1)"
-  abbrev pub ofLayout : (lent : ℕ) → List Line
-  ofLayout lent = line 8 (ltb lent ((length top + tracks top bottom / 2) * (2 * tracks top bottom + 1))) ∷ []
+  -- LENT SLICE: "layout shorter than (n + t/2 rounded down) × (2t + 1)"
+  abbrev pub ofLayout : (lent : ℕ) → Table
+  ofLayout lent = line 8 (lent < (length top + tracks top bottom / 2) * (2 * tracks top bottom + 1)) end
 
-  -- "net table under 256 records"
-  abbrev pub ofNetTable : (lent : ℕ) → List Line
-  ofNetTable lent = line 9 (ltb lent 256) ∷ []
+-- NET TABLE: "net table under 256 records"
+abbrev pub ofNetTable : (lent : ℕ) → Table
+ofNetTable lent = line 9 (lent < 256) end
 
-  -- Drawing
-  abbrev pub ofDrawing : (w t : ℕ) (D : List ℕ) → List Line
-  ofDrawing w t D =
-      line 10 (wrongWidth top w)
-      ∷ line 11 (manyTracks t)
-      ∷ line 12 (wrongSize w t D)
-      ∷ line 13 (ltb (lowest (length D) (strange top bottom D)) (length D))
-      ∷ line 14 (ltb (lowest (length D) (mispinned top bottom t D)) (length D))
-      ∷ line 15 (ltb (lowest (length D) (loose w t D)) (length D))
-      ∷ line 16 (ltb (lowest 257 (split t D)) 257)
-      ∷ []
+-- some number is so
+abbrev pub Some : (ℕ → Type 0) → Type 0
+Some P = (p : ℕ) × P p
+
+-- and this is the least that is
+pub record Least (P : ℕ → Type 0) (p : ℕ) : Type 0 where
+  pub is : P p
+  pub least : (q : ℕ) → P q → p ≤ q
+
+-- DRAWING
+abbrev pub ofDrawing : (top bottom : List ℕ) (w t : ℕ) (D : List ℕ) → Table
+ofDrawing top bottom w t D =
+    -- "w under n or over 511"
+    line 10 ((w < length top) ⊎ (511 < w))
+    -- "t over 511"
+    (line 11 (511 < t)
+    -- "slice not w × (2t + 1) entries"
+    (line 12 (length D ≢ w * (2 * t + 1))
+    -- "entry neither 0 nor a net"
+    (line 13 (Some (Strange top bottom D))
+    -- "pin edge wrong"
+    (line 14 (Some (PinWrong top bottom w t D))
+    -- "horizontal edge in the last column"
+    (line 15 (Some (LeavesLast w t D))
+    -- "a net in more than one piece"
+    (line 16 (Some (Split t D))
+    end))))))

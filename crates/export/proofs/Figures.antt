@@ -1,15 +1,20 @@
 -- The numbers of the net report, written from the front, and the table after the call.
-use Prim.Native.Nat.{ℕ, zero, suc, _+_, _*_, _/_, _≤_, _<_}
+use Prim.Native.Nat.{ℕ, suc, _+_, _*_, _/_, _≤_, _<_}
 use mathlib.Core.Path.{_≡_, refl, sym, ap, _∙_}
 use mathlib.Core.Logic.{_≢_}
 use mathlib.Core.List.{List, [], _∷_, _++_, append-assoc}
 use native.Mathlib.Omega.{arith}
 use native.Mathlib.Numerals.{add-one}
-use lib.ListN.{length, drop, getD, set, length-append, length-drop}
-use lib.Seq.{drop-cons, append-snoc, set-at}
+use lib.ListN.{length, take, drop, getD, set, length-append, length-drop}
+use lib.Seq.{drop-cons, append-snoc, set-at, take-suc, take-all, length-take-le}
+use Rattle.grid.specs.Channel.{rowsRefused}
+use Rattle.grid.specs.Refusals.{ifAccepted}
+use Rattle.grid.proofs.Answers.{accepted-new, accepted-old}
 use Rattle.report.specs.declared.NetRecord.{NetRecord}
-use Rattle.report.specs.Report.{accepted, upTo, records, refused}
-use Rattle.report.proofs.Records.{length-upTo, upTo-suc}
+use Rattle.report.specs.declared.Reported.{Reported}
+use Rattle.report.specs.Report.{numberOf, blankTable, records, refused}
+use Rattle.report.proofs.Answers.{by-rows, by-table, by-none}
+use Rattle.report.proofs.Records.{zeroRecord}
 use Rattle.export.specs.Export.{flat, figuresAfter}
 use Rattle.export.specs.Working.{netPut}
 
@@ -43,62 +48,82 @@ unfolding flat
 length-flat [] = refl
 length-flat (x ∷ xs) = let e = length-flat xs in omega arith
 
--- the numbers of the nets 1 to k
-flat-long : (f : ℕ → NetRecord) (k : ℕ) → length (flat (upTo f k)) ≡ 3 * k
-flat-long f k = length-flat (upTo f k) ∙ ap (λ (m : ℕ). 3 * m) (length-upTo f k)
+-- those of the first k records
+flat-long : (xs : List NetRecord) (k : ℕ) → k ≤ length xs → length (flat (take k xs)) ≡ 3 * k
+flat-long xs k h = length-flat (take k xs) ∙ ap (λ (m : ℕ). 3 * m) (length-take-le k xs h)
 
--- and of one net more
-flat-suc : (f : ℕ → NetRecord) (k : ℕ) (r : NetRecord) → r ≡ f (k + 1)
-    → ((flat (upTo f k) ++ (r .first ∷ [])) ++ (r .last ∷ [])) ++ (r .pins ∷ []) ≡ flat (upTo f (k + 1))
+-- and of one record more
+flat-suc : (xs : List NetRecord) (k : ℕ) (r : NetRecord) → k < length xs → r ≡ getD xs k zeroRecord
+    → ((flat (take k xs) ++ (r .first ∷ [])) ++ (r .last ∷ [])) ++ (r .pins ∷ []) ≡ flat (take (k + 1) xs)
 unfolding flat
-flat-suc f k r e =
-    let a : ((flat (upTo f k) ++ (r .first ∷ [])) ++ (r .last ∷ [])) ++ (r .pins ∷ []) ≡ flat (upTo f k) ++ flat (r ∷ []) = simp append-assoc in
-    a ∙ sym (flat-append (upTo f k) (r ∷ []))
-    ∙ ap (λ (x : NetRecord). flat (upTo f k ++ (x ∷ []))) e
-    ∙ ap flat (upTo-suc f k)
+flat-suc xs k r h e =
+    let a : ((flat (take k xs) ++ (r .first ∷ [])) ++ (r .last ∷ [])) ++ (r .pins ∷ []) ≡ flat (take k xs) ++ flat (r ∷ []) = simp append-assoc in
+    a ∙ sym (flat-append (take k xs) (r ∷ []))
+    ∙ ap (λ (x : NetRecord). flat (take k xs ++ (x ∷ []))) e
+    ∙ ap flat (sym (take-suc xs k zeroRecord h) ∙ ap (λ (m : ℕ). take m xs) (sym (add-one k)))
 
-module _ (f : ℕ → NetRecord) (old : List ℕ) where
-  -- the numbers of no net stand in front of the old ones
-  pub none-put : old ≡ flat (upTo f 0) ++ drop (3 * 0) old
-  unfolding flat upTo
+module _ (xs : List NetRecord) (old : List ℕ) where
+  -- the numbers of no record stand in front of the old ones
+  pub none-put : old ≡ flat (take 0 xs) ++ drop (3 * 0) old
+  unfolding flat
   none-put = refl
 
   -- the table keeps its length
-  pub put-long : (now : List ℕ) (k : ℕ) → now ≡ flat (upTo f k) ++ drop (3 * k) old → 3 * k ≤ length old → length now ≡ length old
-  put-long now k e h =
-      let l = flat-long f k in
+  pub put-long : (now : List ℕ) (k : ℕ) → now ≡ flat (take k xs) ++ drop (3 * k) old → k ≤ length xs → 3 * k ≤ length old → length now ≡ length old
+  put-long now k e g h =
+      let l = flat-long xs k g in
       ap length e ∙ simp (length-append, length-drop) (omega arith)
 
-  -- the numbers of one net more
-  pub one-put : (now after : List ℕ) (k : ℕ) → now ≡ flat (upTo f k) ++ drop (3 * k) old → 3 * k + 3 ≤ length old
-      → after ≡ netPut (f (k + 1)) k now → after ≡ flat (upTo f (k + 1)) ++ drop (3 * (k + 1)) old
+  -- the numbers of one record more
+  pub one-put : (now after : List ℕ) (k : ℕ) (r : NetRecord) → now ≡ flat (take k xs) ++ drop (3 * k) old → k < length xs → 3 * k + 3 ≤ length old
+      → r ≡ getD xs k zeroRecord → after ≡ netPut r k now → after ≡ flat (take (k + 1) xs) ++ drop (3 * (k + 1)) old
   unfolding netPut
-  one-put now after k e h p =
-      let r = f (k + 1) in
+  one-put now after k r e g h i p =
       let n : 3 * k + 3 ≡ 3 * (k + 1) = omega arith in
       p ∙ ap (λ (l : List ℕ). set (set (set l (3 * k) (r .first)) (3 * k + 1) (r .last)) (3 * k + 2) (r .pins)) e
-      ∙ three (flat (upTo f k)) old (3 * k) (r .first) (r .last) (r .pins) (flat-long f k) h
-      ∙ ap (λ (l : List ℕ). l ++ drop (3 * k + 3) old) (flat-suc f k r refl)
-      ∙ ap (λ (m : ℕ). flat (upTo f (k + 1)) ++ drop m old) n
+      ∙ three (flat (take k xs)) old (3 * k) (r .first) (r .last) (r .pins) (flat-long xs k (omega arith)) h
+      ∙ ap (λ (l : List ℕ). l ++ drop (3 * k + 3) old) (flat-suc xs k r g i)
+      ∙ ap (λ (m : ℕ). flat (take (k + 1) xs) ++ drop m old) n
 
-  -- those of all nets
-  pub all-put : (now : List ℕ) (k : ℕ) → k ≡ 256 → now ≡ flat (upTo f k) ++ drop (3 * k) old → now ≡ flat (upTo f 256) ++ drop 768 old
-  all-put now k z e = e ∙ ap (λ (m : ℕ). flat (upTo f m) ++ drop (3 * m) old) z
+  -- those of all records
+  pub all-put : (now : List ℕ) (k : ℕ) → k ≡ 256 → length xs ≡ 256 → now ≡ flat (take k xs) ++ drop (3 * k) old → now ≡ flat xs ++ drop 768 old
+  all-put now k z l e =
+      e ∙ ap (λ (m : ℕ). flat (take m xs) ++ drop (3 * m) old) z
+      ∙ ap (λ (ys : List NetRecord). flat ys ++ drop 768 old) (take-all 256 xs (omega arith))
 
 module _ (top bottom old : List ℕ) (k : ℕ) (e : k ≡ refused top bottom (length old / 3)) where
   -- a refused call leaves the table as it is
-  pub kept-figures : k ≢ 0 → old ≡ figuresAfter top bottom old
+  kept-figures : k ≢ 0 → old ≡ figuresAfter top bottom old
   unfolding figuresAfter
-  kept-figures n = go k n ∙ ap (λ (j : ℕ). accepted j (flat (records top bottom) ++ drop 768 old) old) e
-    where
-      go : (j : ℕ) → j ≢ 0 → old ≡ accepted j (flat (records top bottom) ++ drop 768 old) old
-      go zero m = absurd (m refl)
-      go (suc j) m = refl
+  kept-figures n =
+      sym (accepted-old k (flat (records top bottom) ++ drop 768 old) old n)
+      ∙ ap (λ (j : ℕ). ifAccepted j (flat (records top bottom) ++ drop 768 old) old) e
 
   -- an accepted one leaves the records of the nets, and what stood behind them
-  pub put-figures : (xs : List NetRecord) (now : List ℕ) → k ≡ 0 → now ≡ flat xs ++ drop 768 old → xs ≡ records top bottom
+  put-figures : (xs : List NetRecord) (now : List ℕ) → k ≡ 0 → now ≡ flat xs ++ drop 768 old → xs ≡ records top bottom
       → now ≡ figuresAfter top bottom old
   unfolding figuresAfter
   put-figures xs now z p q =
       p ∙ ap (λ (l : List NetRecord). flat l ++ drop 768 old) q
-      ∙ ap (λ (j : ℕ). accepted j (flat (records top bottom) ++ drop 768 old) old) (sym z ∙ e)
+      ∙ ap (λ (j : ℕ). ifAccepted j (flat (records top bottom) ++ drop 768 old) old) (sym z ∙ e)
+
+-- THE WAYS OUT OF THE CALL: r is the answer of the report into a table of its own, and k its number
+module _ (top bottom old : List ℕ) (r : Reported) (k : ℕ) (n : numberOf r ≡ rowsRefused top bottom 256) (i : k ≡ numberOf r) where
+  -- refused rows
+  pub refused-rows : k ≢ 0 → (k ≡ refused top bottom (length old / 3)) × (old ≡ figuresAfter top bottom old)
+  refused-rows m =
+      let e = i ∙ n ∙ by-rows top bottom (length old / 3) (λ z. m (i ∙ n ∙ z)) in
+      (e, kept-figures top bottom old k e m)
+
+  -- a table that is too short
+  pub short-table : k ≡ 0 → length old < 768 → (9 ≡ refused top bottom (length old / 3)) × (old ≡ figuresAfter top bottom old)
+  short-table z h =
+      let e = by-table top bottom (length old / 3) (sym n ∙ sym i ∙ z) (omega arith) in
+      (e, kept-figures top bottom old 9 e (λ f. absurd (omega arith)))
+
+  -- neither: the numbers of the records that the answer came with
+  pub full-table : (nets : List NetRecord) (now : List ℕ) → k ≡ 0 → 768 ≤ length old → nets ≡ ifAccepted (numberOf r) (records top bottom) blankTable
+      → now ≡ flat nets ++ drop 768 old → (0 ≡ refused top bottom (length old / 3)) × (now ≡ figuresAfter top bottom old)
+  full-table nets now z h t p =
+      let e = by-none top bottom (length old / 3) (sym n ∙ sym i ∙ z) (omega arith) in
+      (e, put-figures top bottom old 0 e nets now refl p (t ∙ accepted-new (numberOf r) (records top bottom) blankTable (sym i ∙ z)))

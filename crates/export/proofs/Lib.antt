@@ -1,3 +1,2 @@
 -- The laws of the calls for other languages.
-pub mod Columns
 pub mod Figures

@@ -1,11 +1,9 @@
 -- Document 01, "Refused, by place": the answers of the calls as numbers. "A refusal returns its number and zeros for density, tracks, width, slice
 -- length and every other figure"; "The number on acceptance is 0": each number and figure is the one that the answer's own library gives for its cases.
-use Prim.Native.Nat.{ℕ, _+_, _*_, _-_, _/_}
-use mathlib.Core.Bool.{not}
+use Prim.Native.Nat.{ℕ, _/_}
 use mathlib.Core.List.{List, [], _∷_, _++_}
-use lib.Dec.{eqb, ltb}
 use lib.ListN.{length as size, drop}
-use Rattle.grid.specs.Channel.{pick}
+use Rattle.grid.specs.Refusals.{ifAccepted}
 use Rattle.grid.specs.declared.DensityCount.{DensityCount}
 use Rattle.grid.specs.Answers.{countNumber, countDensity}
 use Rattle.sweep.specs.declared.Length.{Length}
@@ -15,12 +13,15 @@ use Rattle.checker.specs.declared.Checked.{Checked}
 use Rattle.checker.specs.Check.{placeOf}
 use Rattle.checker.specs.Check.{numberOf as faultNumber}
 use Rattle.report.specs.declared.NetRecord.{NetRecord}
-use Rattle.report.specs.Report.{accepted, records, refused}
+use Rattle.report.specs.Report.{records, refused}
 use Rattle.export.specs.declared.DensityResult.{DensityResult}
 use Rattle.export.specs.declared.NeedResult.{NeedResult}
 use Rattle.export.specs.declared.RouteResult.{RouteResult}
+use Rattle.listing.specs.declared.Listed.{Listed}
+use Rattle.listing.specs.Listing.{lengthOf}
+use Rattle.listing.specs.Listing.{numberOf as listNumber}
 use Rattle.export.specs.declared.CheckResult.{CheckResult}
-use Rattle.export.specs.declared.Part.{Part}
+use Rattle.export.specs.declared.ListResult.{ListResult}
 
 -- the density
 abbrev pub densityOf : DensityCount → DensityResult
@@ -39,20 +40,9 @@ routeOf a =
 abbrev pub checkOf : Checked → CheckResult
 checkOf a = record { number = faultNumber a; place = placeOf a }
 
--- no part of a layout
-abbrev pub noPart : Part
-noPart = record { offset = 0; length = 0 }
-
--- "One column's entries are handed back as that part of the caller's layout slice; an empty part if w or t is over 511, the length is not
--- w × (2t + 1), or the column is not 1 to w": the first entry, from 0, and the number of entries of column c in a layout of len entries
-unfoldable pub partOf : (len w t c : ℕ) → Part
-partOf len w t c =
-    pick (ltb 511 w) noPart
-    (pick (ltb 511 t) noPart
-    (pick (not (eqb len (w * (2 * t + 1)))) noPart
-    (pick (ltb c 1) noPart
-    (pick (ltb w c) noPart
-    (record { offset = (c - 1) * (2 * t + 1); length = 2 * t + 1 })))))
+-- the listing's number and the bytes of its text
+abbrev pub listOf : Listed → ListResult
+listOf a = record { number = listNumber a; length = lengthOf a }
 
 -- "one per number 1 to 256: first column, last column, pin count": a table of net records as numbers, three for each record
 unfoldable pub flat : List NetRecord → List ℕ
@@ -62,4 +52,4 @@ flat (x ∷ xs) = x .first ∷ x .last ∷ x .pins ∷ flat xs
 -- what the net report leaves in a table that held the numbers `old`, which are a third as many records; "Records after the 256th keep their contents"
 unfoldable pub figuresAfter : (top bottom old : List ℕ) → List ℕ
 figuresAfter top bottom old =
-    accepted (refused top bottom (size old / 3)) (flat (records top bottom) ++ drop 768 old) old
+    ifAccepted (refused top bottom (size old / 3)) (flat (records top bottom) ++ drop 768 old) old

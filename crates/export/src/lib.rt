@@ -1,22 +1,24 @@
 // The calls for other languages: the libraries' answers as numbers. A slice passes as a pointer and a length in elements.
 use checker::Checked;
 use grid::DensityCount;
-use grid::RowCheck;
+use grid::Part;
+use report::NetRecord;
 use sweep::Length;
 use sweep::Routed;
 ghost use mathlib.Core.Path.{_≡_};
 ghost use mathlib.Core.List.{_++_};
-ghost use Prim.Native.Nat.{_+_, _/_, _≤_, _<_};
+ghost use Prim.Native.Nat.{_/_, _≤_, _<_};
 ghost use lib.ListN.{length, drop};
 ghost use Rattle.grid.specs.Answers.{densityCount};
+ghost use Rattle.grid.specs.View.{columnPart};
 ghost use Rattle.sweep.specs.Answers.{need, answer, written};
 ghost use Rattle.checker.specs.Check.{checked};
-ghost use Rattle.export.specs.Export.{densityOf, needOf, routeOf, checkOf, noPart, partOf, flat, figuresAfter};
+ghost use Rattle.export.specs.Export.{densityOf, needOf, routeOf, checkOf, listOf, flat, figuresAfter};
 ghost use Rattle.export.specs.Working.{netPut};
-ghost use Rattle.report.specs.Report.{upTo, refused};
-ghost use Rattle.report.specs.Working.{inTables};
-ghost use Rattle.listing.specs.Listing.{listed};
-ghost use Rattle.listing.specs.Written.{Written};
+ghost use Rattle.report.specs.Report.{refused};
+ghost use Rattle.grid.specs.Refusals.{ifAccepted};
+ghost use Rattle.record.specs.Record.{laid};
+ghost use Rattle.listing.specs.Listing.{listed, refused as listRefused, textOf};
 
 #[repr(C)]
 pub struct DensityResult {
@@ -44,10 +46,9 @@ pub struct CheckResult {
     pub place: usize,
 }
 
-// Where a column lies in a layout: from which entry on, and how many entries.
 #[repr(C)]
-pub struct Part {
-    pub offset: usize,
+pub struct ListResult {
+    pub number: u16,
     pub length: usize,
 }
 
@@ -90,8 +91,8 @@ pub extern "C" fn gaxwethi_need(top: &[u16], bottom: &[u16]) -> NeedResult
 // Routes a channel into a layout.
 #[no_mangle]
 pub extern "C" fn gaxwethi_route(top: &[u16], bottom: &[u16], layout: &mut [u16]) -> RouteResult
-    ensures answer { λ r. ⌜ r ≡ routeOf (answer (now (top .entry)) (now (bottom .entry)) (length (now (layout .entry)))) ⌝ }
-    ensures drawing { λ r. ⌜ now (layout .exit) ≡ written (now (top .entry)) (now (bottom .entry)) (now (layout .entry)) ⌝ }
+    ensures answer { λ r. ⌜ r ≡ routeOf (answer (now (top .entry)) (now (bottom .entry)) 256 (length (now (layout .entry)))) ⌝ }
+    ensures drawing { λ r. ⌜ now (layout .exit) ≡ written (now (top .entry)) (now (bottom .entry)) 256 (now (layout .entry)) ⌝ }
 {
     let a = sweep::route(top, bottom, layout);
     match a {
@@ -128,68 +129,33 @@ pub extern "C" fn gaxwethi_check(
     }
 }
 
-// No part of a layout.
-fn no_part() -> Part
-    ensures { λ r. ⌜ r ≡ noPart ⌝ }
-{
-    Part {
-        offset: 0,
-        length: 0,
-    }
-}
-
-// Where column c (from 1) lies in a layout of len entries with w columns and t tracks.
+// Where column c (from 1) lies in a layout of len entries with w columns and t tracks: from which entry on, and how many entries.
 #[no_mangle]
 pub extern "C" fn gaxwethi_column(len: usize, w: usize, t: usize, c: usize) -> Part
-    ensures { λ r. ⌜ r ≡ partOf len w t c ⌝ }
+    ensures { λ r. ⌜ r ≡ columnPart len w t c ⌝ }
 {
-    if 511 < w {
-        return no_part();
-    }
-    if 511 < t {
-        return no_part();
-    }
-    let size = 2 * t + 1;
-    if len != w * size {
-        return no_part();
-    }
-    if c < 1 {
-        return no_part();
-    }
-    if w < c {
-        return no_part();
-    }
-    Part {
-        offset: (c - 1) * size,
-        length: size,
-    }
+    grid::column_part(len, w, t, c)
 }
 
-// A figure of no net.
-fn zeros() -> [u16; 257] {
-    [0u16; 257]
-}
-
-// Writes the three numbers of net k + 1, from a table for each figure with the nets at their numbers.
-fn put_net(figures: &mut [u16], first: &[u16; 257], last: &[u16; 257], pins: &[u16; 257], k: usize)
+// Writes the three numbers of a record, number k from 0.
+fn put_net(figures: &mut [u16], net: NetRecord, k: usize)
     requires { ⌜ (k < 256) × (768 ≤ length (now figures)) ⌝ }
-    ensures { λ _. ⌜ now (figures .exit) ≡ netPut (inTables (now (first .entry)) (now (last .entry)) (now (pins .entry)) (k + 1)) k (now (figures .entry)) ⌝ }
+    ensures { λ _. ⌜ now (figures .exit) ≡ netPut net k (now (figures .entry)) ⌝ }
 {
-    let net = k + 1;
     let at = 3 * k;
-    figures[at] = first[net];
-    figures[at + 1] = last[net];
-    figures[at + 2] = pins[net];
+    figures[at] = net.first;
+    figures[at + 1] = net.last;
+    figures[at + 2] = net.pins;
 }
 
-// Writes the numbers of the nets 1 to 256, from those tables.
-fn put_nets(figures: &mut [u16], first: &[u16; 257], last: &[u16; 257], pins: &[u16; 257])
+// Writes the numbers of 256 records.
+fn put_nets(figures: &mut [u16], nets: [NetRecord; 256])
     requires { ⌜ 768 ≤ length (now figures) ⌝ }
-    ensures { λ _. ⌜ now (figures .exit) ≡ flat (upTo (inTables (now (first .entry)) (now (last .entry)) (now (pins .entry))) 256) ++ drop 768 (now (figures .entry)) ⌝ }
+    ensures { λ _. ⌜ now (figures .exit) ≡ flat nets ++ drop 768 (now (figures .entry)) ⌝ }
 {
     let mut k = 0;
     while k < 256 {
-        put_net(figures, first, last, pins, k);
+        put_net(figures, nets[k], k);
         k += 1;
     }
 }
@@ -200,24 +166,29 @@ pub extern "C" fn gaxwethi_report(top: &[u16], bottom: &[u16], figures: &mut [u1
     ensures answer { λ r. ⌜ r ≡ refused (now (top .entry)) (now (bottom .entry)) (length (now (figures .entry)) / 3) ⌝ }
     ensures figures { λ r. ⌜ now (figures .exit) ≡ figuresAfter (now (top .entry)) (now (bottom .entry)) (now (figures .entry)) ⌝ }
 {
-    let mut first = zeros();
-    let mut last = zeros();
-    let mut pins = zeros();
-    let r = grid::net_facts(top, bottom, 256, &mut first, &mut last, &mut pins);
-    let RowCheck::Fit(_) = r else {
-        return grid::number_of(r);
-    };
+    let reply = report::table_of(top, bottom);
+    let answer = reply.answer;
+    let number = report::number_of(answer);
+    if number != 0 {
+        return number;
+    }
     if figures.len() < 768 {
         return 9;
     }
-    put_nets(figures, &first, &last, &pins);
+    let nets = reply.table;
+    put_nets(figures, nets);
     0
 }
 
-// The listing of a record: what `knee` writes. The answer is the number of bytes.
+// The listing of a record, at the front of the text; what stands behind it stays. A refused record leaves the text as it is.
 #[no_mangle]
-pub extern "C" fn gaxwethi_list(record: &[u8], text: &mut [u8; 131072]) -> usize
-    ensures { λ r. ⌜ Written (now (text .entry)) (listed (now («record» .entry))) r (now (text .exit)) ⌝ }
+pub extern "C" fn gaxwethi_list(record: &[u8], text: &mut [u8; 131072]) -> ListResult
+    ensures answer { λ r. ⌜ r ≡ listOf (listed (now («record» .entry))) ⌝ }
+    ensures text { λ r. ⌜ now (text .exit) ≡ ifAccepted (listRefused (now («record» .entry))) (laid (textOf (now («record» .entry))) (now (text .entry))) (now (text .entry)) ⌝ }
 {
-    listing::list(record, text)
+    let a = listing::list(record, text);
+    ListResult {
+        number: listing::number_of(a),
+        length: listing::length_of(a),
+    }
 }

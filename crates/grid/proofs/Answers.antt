@@ -10,9 +10,11 @@ use lib.ListN.{length}
 use Rattle.grid.specs.declared.RowCheck.{RowCheck}
 use Rattle.grid.specs.declared.RowCheck.the-variants.{Fit, Refused}
 use Rattle.grid.specs.declared.Size.{Size}
+use Rattle.grid.specs.declared.DensityCount.{DensityCount}
 use Rattle.grid.specs.declared.DensityCount.the-variants as dc
 use Rattle.grid.specs.Channel.{over, count, pins, twoPin, density, rowsRefused}
-use Rattle.grid.specs.Answers.{numberOf, countNumber, countDensity, checkOf, countOf, kept, refusedWithin, rowCheck, densityCount}
+use Rattle.grid.specs.Refusals.{ifAccepted}
+use Rattle.grid.specs.Answers.{numberOf, noSize, sizeOf, checkOf, countNumber, countDensity, countOf, refusedWithin, size, rowCheck, densityCount}
 use Rattle.grid.specs.Working.{some}
 use Rattle.grid.proofs.Tests.{eq-eqb, ne-eqb, lt-ltb, le-ltb}
 use Rattle.grid.proofs.Rows.{rows-more}
@@ -23,16 +25,16 @@ module _ (top bottom : List ℕ) (most : ℕ) where
   -- the answer with a number
   refused-by : (k : ℕ) → refusedWithin top bottom most ≡ suc k → Refused (suc k) ≡ rowCheck top bottom most
   unfolding rowCheck
-  refused-by k e = sym (ap (λ (n : ℕ). checkOf n (length top) (density top bottom) (twoPin top bottom)) e)
+  refused-by k e = sym (ap (λ (n : ℕ). checkOf n (size top bottom)) e)
 
   -- and what else is asked of accepted rows
   pub refused-with : {A : Type 0} (k : ℕ) → refusedWithin top bottom most ≡ suc k → (Refused (suc k) ≡ rowCheck top bottom most) × (refusedWithin top bottom most ≡ 0 → A)
   refused-with k e = (refused-by k e, λ z. absurd (omega arith))
 
   -- and with none
-  pub fit-by : refusedWithin top bottom most ≡ 0 → Fit (record { columns = length top; density = density top bottom; pairs = twoPin top bottom }) ≡ rowCheck top bottom most
+  pub fit-by : refusedWithin top bottom most ≡ 0 → Fit (size top bottom) ≡ rowCheck top bottom most
   unfolding rowCheck
-  fit-by e = sym (ap (λ (n : ℕ). checkOf n (length top) (density top bottom) (twoPin top bottom)) e)
+  fit-by e = sym (ap (λ (n : ℕ). checkOf n (size top bottom)) e)
 
   -- lengths that differ
   pub case-4 : length top ≢ length bottom → refusedWithin top bottom most ≡ 4
@@ -71,39 +73,50 @@ pairs-by top bottom q e = ap not e ∙ go (eqb (count (λ v. ltb 2 (pins top bot
     go true = refl
     go false = refl
 
--- THE NUMBER
+-- NUMBER AND FIGURES
 
-number-check : (k n d : ℕ) (p : Bool) → numberOf (checkOf k n d p) ≡ k
-number-check zero n d p = refl
-number-check (suc k) n d p = refl
+-- the number and the figures of an answer made by a number
+check-parts : (k : ℕ) (s : Size) → (numberOf (checkOf k s) ≡ k) × (sizeOf (checkOf k s) ≡ ifAccepted k s noSize)
+check-parts zero s = (refl, refl)
+check-parts (suc k) s = (refl, refl)
 
--- the number of the row check's answer is that of the definition
-pub check-number : (top bottom : List ℕ) (most : ℕ) → numberOf (rowCheck top bottom most) ≡ refusedWithin top bottom most
-unfolding rowCheck
-check-number top bottom most = number-check (refusedWithin top bottom most) (length top) (density top bottom) (twoPin top bottom)
+count-parts : (k d : ℕ) → (countNumber (countOf k d) ≡ k) × (countDensity (countOf k d) ≡ ifAccepted k d 0)
+count-parts zero d = (refl, refl)
+count-parts (suc k) d = (refl, refl)
 
-number-count : (k d : ℕ) → countNumber (countOf k d) ≡ k
-number-count zero d = refl
-number-count (suc k) d = refl
+module _ (top bottom : List ℕ) where
+  -- the row check's number is that of the definition
+  pub check-number : (most : ℕ) → numberOf (rowCheck top bottom most) ≡ refusedWithin top bottom most
+  unfolding rowCheck
+  check-number most = check-parts (refusedWithin top bottom most) (size top bottom) .0
 
--- so is that of the density call's answer
-pub density-number : (top bottom : List ℕ) → countNumber (densityCount top bottom) ≡ rowsRefused top bottom 256
-unfolding densityCount
-density-number top bottom = number-count (rowsRefused top bottom 256) (density top bottom)
+  -- and its figures are the rows' on acceptance and zeros on refusal
+  pub check-figures : (most : ℕ) → sizeOf (rowCheck top bottom most) ≡ ifAccepted (refusedWithin top bottom most) (size top bottom) noSize
+  unfolding rowCheck
+  check-figures most = check-parts (refusedWithin top bottom most) (size top bottom) .1
 
--- whose figure is the density on acceptance
-pub density-figure : (top bottom : List ℕ) → rowsRefused top bottom 256 ≡ 0 → countDensity (densityCount top bottom) ≡ density top bottom
-unfolding densityCount
-density-figure top bottom e = ap (λ (k : ℕ). countDensity (countOf k (density top bottom))) e
+  -- so of the density call
+  pub density-number : countNumber (densityCount top bottom) ≡ rowsRefused top bottom 256
+  unfolding densityCount
+  density-number = count-parts (rowsRefused top bottom 256) (density top bottom) .0
 
--- and 0 on refusal
-pub density-none : (top bottom : List ℕ) → rowsRefused top bottom 256 ≢ 0 → countDensity (densityCount top bottom) ≡ 0
-unfolding densityCount
-density-none top bottom n = go (rowsRefused top bottom 256) n
-  where
-    go : (k : ℕ) → k ≢ 0 → countDensity (countOf k (density top bottom)) ≡ 0
-    go zero m = absurd (m refl)
-    go (suc k) m = refl
+  pub density-figure : countDensity (densityCount top bottom) ≡ ifAccepted (rowsRefused top bottom 256) (density top bottom) 0
+  unfolding densityCount
+  density-figure = count-parts (rowsRefused top bottom 256) (density top bottom) .1
+
+  -- what a call that answers the row check promises of it
+  pub check-promise : (most : ℕ) (r : RowCheck) → r ≡ rowCheck top bottom most
+      → (numberOf r ≡ refusedWithin top bottom most) × (sizeOf r ≡ ifAccepted (numberOf r) (size top bottom) noSize)
+  check-promise most r e =
+      let n = ap numberOf e ∙ check-number most in
+      (n, ap sizeOf e ∙ check-figures most ∙ ap (λ (k : ℕ). ifAccepted k (size top bottom) noSize) (sym n))
+
+  -- and of the density
+  pub density-promise : (r : DensityCount) → r ≡ densityCount top bottom
+      → (countNumber r ≡ rowsRefused top bottom 256) × (countDensity r ≡ ifAccepted (countNumber r) (density top bottom) 0)
+  density-promise r e =
+      let n = ap countNumber e ∙ density-number in
+      (n, ap countDensity e ∙ density-figure ∙ ap (λ (k : ℕ). ifAccepted k (density top bottom) 0) (sym n))
 
 -- FOR CALLERS OF THE ROW CHECK
 
@@ -123,25 +136,25 @@ pub told : (top bottom : List ℕ) (most : ℕ) (r : RowCheck) (s : Size) → r 
 unfolding rowCheck
 told top bottom most r s e f = go (refusedWithin top bottom most) refl (sym f ∙ e)
   where
-    go : (k : ℕ) → refusedWithin top bottom most ≡ k → Fit s ≡ checkOf k (length top) (density top bottom) (twoPin top bottom) → Told top bottom most s
+    go : (k : ℕ) → refusedWithin top bottom most ≡ k → Fit s ≡ checkOf k (size top bottom) → Told top bottom most s
     go zero n g = record { number = n; columns = (cc); figure = (cc); pairs = (cc) }
     go (suc k) n g = absurd (let z : _≡_ {A = ℕ} 0 1 = cc in omega arith)
 
 -- an answer `Refused`
 pub refused : (top bottom : List ℕ) (most : ℕ) (r : RowCheck) (j : ℕ) → r ≡ rowCheck top bottom most → r ≡ Refused j → refusedWithin top bottom most ≢ 0
 unfolding rowCheck
-refused top bottom most r j e f n = let z : _≡_ {A = ℕ} 0 1 = cc (ap (λ (k : ℕ). checkOf k (length top) (density top bottom) (twoPin top bottom)) n) in omega arith
+refused top bottom most r j e f n = let z : _≡_ {A = ℕ} 0 1 = cc (ap (λ (k : ℕ). checkOf k (size top bottom)) n) in omega arith
 
 -- the density call's answer to rows that the row check refuses
 pub count-refused : (k d : ℕ) → k ≢ 0 → dc.Refused k ≡ countOf k d
 count-refused zero d n = absurd (n refl)
 count-refused (suc k) d n = refl
 
--- a table on acceptance
-pub kept-new : (k : ℕ) (new old : List ℕ) → k ≡ 0 → kept k new old ≡ new
-kept-new k new old e = ap (λ (j : ℕ). kept j new old) e
+-- a value on acceptance
+pub accepted-new : {A : Type 0} (k : ℕ) (new old : A) → k ≡ 0 → ifAccepted k new old ≡ new
+accepted-new k new old e = rw e
 
 -- and on refusal
-pub kept-old : (k : ℕ) (new old : List ℕ) → k ≢ 0 → kept k new old ≡ old
-kept-old zero new old n = absurd (n refl)
-kept-old (suc k) new old n = refl
+pub accepted-old : {A : Type 0} (k : ℕ) (new old : A) → k ≢ 0 → ifAccepted k new old ≡ old
+accepted-old zero new old n = absurd (n refl)
+accepted-old (suc k) new old n = refl

@@ -38,7 +38,7 @@ fn after(here: usize, c: u16, p: usize, q: usize, first: &[u16], last: &[u16]) -
 }
 
 // The density of accepted rows: the largest count over the gaps.
-pub fn largest_count(top: &[u16], bottom: &[u16], first: &[u16], last: &[u16]) -> usize
+pub(crate) fn largest_count(top: &[u16], bottom: &[u16], first: &[u16], last: &[u16]) -> usize
     requires { ⌜ Rows (now top) (now bottom) × (now first ≡ table (firstColumn (now top) (now bottom))) × (now last ≡ table (lastColumn (now top) (now bottom))) ⌝ }
     ensures { λ r. ⌜ r ≡ densityOf (now (top .entry)) (now (bottom .entry)) ⌝ }
 {

@@ -6,9 +6,11 @@ mod spans;
 ghost use mathlib.Core.Path.{_≡_};
 ghost use Rattle.grid.specs.Channel.{over, pins as pinsOf};
 ghost use Rattle.grid.specs.Nets.{firstColumn, lastColumn, table};
-ghost use Rattle.grid.specs.Answers.{numberOf, refusedWithin, rowCheck, kept, densityCount};
+ghost use Rattle.grid.specs.Refusals.{ifAccepted};
+ghost use Rattle.grid.specs.Channel.{rowsRefused, density as densityOf};
+ghost use Rattle.grid.specs.Answers.{numberOf, sizeOf, noSize, countNumber, countDensity, refusedWithin, size as sizeBy, rowCheck, densityCount};
 ghost use Rattle.grid.specs.Working.{blank, Filled};
-ghost use Rattle.grid.specs.View.{columnView};
+ghost use Rattle.grid.specs.View.{noPart, columnPart, columnView};
 
 // Of accepted rows: the number of columns, the density, and whether each net has two pins.
 pub struct Size {
@@ -25,6 +27,13 @@ pub enum RowCheck {
 pub enum DensityCount {
     Is(usize),
     Refused(u16),
+}
+
+// A part of a layout: from which entry on, and how many entries.
+#[repr(C)]
+pub struct Part {
+    pub offset: usize,
+    pub length: usize,
 }
 
 // The number of the refusal, 0 for none.
@@ -80,7 +89,9 @@ fn checked(
 
 // The row check. `most` is the largest number of columns; over 256 it stands for 256.
 pub fn check_rows(top: &[u16], bottom: &[u16], most: usize) -> RowCheck
-    ensures { λ r. ⌜ r ≡ rowCheck (now (top .entry)) (now (bottom .entry)) most ⌝ }
+    ensures answer { λ r. ⌜ r ≡ rowCheck (now (top .entry)) (now (bottom .entry)) most ⌝ }
+    ensures number { λ r. ⌜ numberOf r ≡ refusedWithin (now (top .entry)) (now (bottom .entry)) most ⌝ }
+    ensures figures { λ r. ⌜ sizeOf r ≡ ifAccepted (numberOf r) (sizeBy (now (top .entry)) (now (bottom .entry))) noSize ⌝ }
 {
     let mut first = zeros();
     let mut last = zeros();
@@ -98,9 +109,11 @@ pub fn net_facts(
     pins: &mut [u16; 257],
 ) -> RowCheck
     ensures answer { λ r. ⌜ r ≡ rowCheck (now (top .entry)) (now (bottom .entry)) most ⌝ }
-    ensures first { λ r. ⌜ now (first .exit) ≡ kept (refusedWithin (now (top .entry)) (now (bottom .entry)) most) (table (firstColumn (now (top .entry)) (now (bottom .entry)))) (now (first .entry)) ⌝ }
-    ensures last { λ r. ⌜ now (last .exit) ≡ kept (refusedWithin (now (top .entry)) (now (bottom .entry)) most) (table (lastColumn (now (top .entry)) (now (bottom .entry)))) (now (last .entry)) ⌝ }
-    ensures pins { λ r. ⌜ now (pins .exit) ≡ kept (refusedWithin (now (top .entry)) (now (bottom .entry)) most) (table (pinsOf (now (top .entry)) (now (bottom .entry)))) (now (pins .entry)) ⌝ }
+    ensures first { λ r. ⌜ now (first .exit) ≡ ifAccepted (numberOf r) (table (firstColumn (now (top .entry)) (now (bottom .entry)))) (now (first .entry)) ⌝ }
+    ensures last { λ r. ⌜ now (last .exit) ≡ ifAccepted (numberOf r) (table (lastColumn (now (top .entry)) (now (bottom .entry)))) (now (last .entry)) ⌝ }
+    ensures pins { λ r. ⌜ now (pins .exit) ≡ ifAccepted (numberOf r) (table (pinsOf (now (top .entry)) (now (bottom .entry)))) (now (pins .entry)) ⌝ }
+    ensures number { λ r. ⌜ numberOf r ≡ refusedWithin (now (top .entry)) (now (bottom .entry)) most ⌝ }
+    ensures figures { λ r. ⌜ sizeOf r ≡ ifAccepted (numberOf r) (sizeBy (now (top .entry)) (now (bottom .entry))) noSize ⌝ }
 {
     let mut firsts = zeros();
     let mut lasts = zeros();
@@ -124,7 +137,9 @@ pub fn has_over(numbers: &[u16]) -> bool
 
 // The density of a channel.
 pub fn density(top: &[u16], bottom: &[u16]) -> DensityCount
-    ensures { λ r. ⌜ r ≡ densityCount (now (top .entry)) (now (bottom .entry)) ⌝ }
+    ensures answer { λ r. ⌜ r ≡ densityCount (now (top .entry)) (now (bottom .entry)) ⌝ }
+    ensures number { λ r. ⌜ countNumber r ≡ rowsRefused (now (top .entry)) (now (bottom .entry)) 256 ⌝ }
+    ensures figure { λ r. ⌜ countDensity r ≡ ifAccepted (countNumber r) (densityOf (now (top .entry)) (now (bottom .entry))) 0 ⌝ }
 {
     let r = check_rows(top, bottom, 256);
     let RowCheck::Fit(s) = r else {
@@ -133,26 +148,48 @@ pub fn density(top: &[u16], bottom: &[u16]) -> DensityCount
     DensityCount::Is(s.density)
 }
 
+// The empty part.
+fn no_part() -> Part
+    ensures { λ r. ⌜ r ≡ noPart ⌝ }
+{
+    Part {
+        offset: 0,
+        length: 0,
+    }
+}
+
+// Where column c (from 1) lies in a layout of len entries with w columns and t tracks; the empty part where there is none.
+pub fn column_part(len: usize, w: usize, t: usize, c: usize) -> Part
+    ensures { λ r. ⌜ r ≡ columnPart len w t c ⌝ }
+{
+    if 511 < w {
+        return no_part();
+    }
+    if 511 < t {
+        return no_part();
+    }
+    let size = 2 * t + 1;
+    if len != w * size {
+        return no_part();
+    }
+    if c < 1 {
+        return no_part();
+    }
+    if w < c {
+        return no_part();
+    }
+    Part {
+        offset: (c - 1) * size,
+        length: size,
+    }
+}
+
 // Column c (from 1) of a layout of w columns and t tracks: its 2t + 1 entries, or nothing.
 pub fn column(layout: &[u16], w: usize, t: usize, c: usize) -> &[u16]
     ensures { λ r. ⌜ now r ≡ columnView (now (layout .entry)) w t c ⌝ }
 {
-    if 511 < w {
-        return &layout[..0];
-    }
-    if 511 < t {
-        return &layout[..0];
-    }
-    let size = 2 * t + 1;
-    if layout.len() != w * size {
-        return &layout[..0];
-    }
-    if c < 1 {
-        return &layout[..0];
-    }
-    if w < c {
-        return &layout[..0];
-    }
-    let start = (c - 1) * size;
-    &layout[start..start + size]
+    let p = column_part(layout.len(), w, t, c);
+    let start = p.offset;
+    let end = start + p.length;
+    &layout[start..end]
 }

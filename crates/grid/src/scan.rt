@@ -7,20 +7,20 @@ ghost use Rattle.grid.specs.Channel.{over};
 ghost use Rattle.grid.specs.Working.{some};
 
 // Whether a net has one pin, and whether one has more than two.
-pub struct Flags {
+pub(crate) struct Flags {
     pub single: bool,
     pub many: bool,
 }
 
 // The largest number of columns: at most 256.
-pub fn limit(most: usize) -> usize
+pub(crate) fn limit(most: usize) -> usize
     ensures { λ r. ⌜ r ≡ min most 256 ⌝ }
 {
     if most < 256 { most } else { 256 }
 }
 
 // Whether a row has a number over 256.
-pub fn has_over(row: &[u16]) -> bool
+pub(crate) fn has_over(row: &[u16]) -> bool
     ensures { λ r. ⌜ r ≡ over (now (row .entry)) ⌝ }
 {
     let mut found = false;
@@ -33,7 +33,7 @@ pub fn has_over(row: &[u16]) -> bool
 }
 
 // The tests over the pin counts of all nets.
-pub fn tests(pins: &[u16]) -> Flags
+pub(crate) fn tests(pins: &[u16]) -> Flags
     requires { ⌜ length (now pins) ≡ 257 ⌝ }
     ensures single { λ r. ⌜ r .single ≡ some (λ v. eqb (getD (now (pins .entry)) v 0) 1) 256 ⌝ }
     ensures many { λ r. ⌜ r .many ≡ some (λ v. ltb 2 (getD (now (pins .entry)) v 0)) 256 ⌝ }

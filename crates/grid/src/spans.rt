@@ -6,7 +6,7 @@ ghost use Rattle.grid.specs.Channel.{pins as pinsOf};
 ghost use Rattle.grid.specs.Nets.{firstColumn, lastColumn};
 ghost use Rattle.grid.specs.Working.{Rows, blank, Figures, Filled};
 
-pub fn wide(x: u16) -> usize
+pub(crate) fn wide(x: u16) -> usize
     ensures { λ r. ⌜ r ≡ x ⌝ }
 {
     x as usize
@@ -54,7 +54,13 @@ fn note_from_right(top: &[u16], bottom: &[u16], first: &mut [u16])
 }
 
 // Fills three tables of zeros with the facts of each net.
-pub fn fill(top: &[u16], bottom: &[u16], first: &mut [u16], last: &mut [u16], pins: &mut [u16])
+pub(crate) fn fill(
+    top: &[u16],
+    bottom: &[u16],
+    first: &mut [u16],
+    last: &mut [u16],
+    pins: &mut [u16],
+)
     requires { ⌜ Rows (now top) (now bottom) × (now first ≡ blank) × (now last ≡ blank) × (now pins ≡ blank) ⌝ }
     ensures { λ _. ⌜ Filled (now (top .entry)) (now (bottom .entry)) (now (first .exit)) (now (last .exit)) (now (pins .exit)) ⌝ }
 {

@@ -1,4 +1,4 @@
-// Reads a record from standard input and writes its listing to standard output.
+// Reads a record from standard input and writes its listing, or the line of its refusal, to standard output.
 ghost use mathlib.Core.Path.{_≡_};
 ghost use lib.ListN.{length};
 
@@ -17,6 +17,6 @@ fn main() {
     let mut bytes = input();
     let n = io::read_full(0, &mut bytes);
     let mut text = room();
-    let size = listing::list(&bytes[..n], &mut text);
+    let size = listing::put_output(&bytes[..n], &mut text);
     io::write_all(1, &text[..size]);
 }

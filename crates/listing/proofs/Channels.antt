@@ -1,40 +1,45 @@
--- The text of a channel: that of its refusal, or that of its drawing, for which the layout and the text have room. Assumes nothing.
+-- The listing of a channel: its refusal, or the text of its drawing, for which the layout and the text have room. Assumes nothing.
 use Prim.Native.Nat.{ℕ, zero, suc, _+_, _-_, _*_, _≤_, _<_}
 use native.Mathlib.Omega.{arith}
 use native.Mathlib.Decide.{decLt, ℕ-discrete}
 use mathlib.Core.Bool.{Bool, true, false}
 use mathlib.Core.Logic.{_⊎_, inl, inr, _≢_, ⊎-elim}
 use mathlib.Core.Path.{_≡_, refl, ap, sym, subst, _∙_}
-use mathlib.Core.List.{List, _++_}
+use mathlib.Core.List.{List}
 use lib.ListN.{length, getD, drop}
-use Rattle.grid.specs.declared.RowCheck.{RowCheck}
-use Rattle.grid.specs.declared.RowCheck.the-variants as rows
 use Rattle.grid.specs.Channel.{density, tracks, twoPin, pins, rowsRefused}
-use Rattle.grid.specs.Answers.{numberOf, rowCheck}
 use Rattle.grid.proofs.Rows.{rows-fit, rows-more}
-use Rattle.grid.proofs.Answers.{check-number, case-5}
-use Rattle.grid.proofs.Answers as answers
+use Rattle.grid.proofs.Answers.{case-5}
 use Rattle.grid.proofs.Counting.{at-below}
 use Rattle.grid.proofs.Crossing.{density-few}
 use Rattle.sweep.specs.declared.Figures.{Figures}
 use Rattle.sweep.specs.declared.Routed.{Routed}
 use Rattle.sweep.specs.declared.Routed.the-variants.{Drawn, Refused}
 use Rattle.sweep.specs.Drawing.{width, layout}
-use Rattle.sweep.specs.Answers.{routedBy, sliceLength, figures, answer, written}
+use Rattle.sweep.specs.Answers.{routedBy, sliceLength, figures, refused, answer, written}
 use Rattle.sweep.proofs.Solved.{solved, layout-length, width-most, two-density, many-density}
 use Rattle.sweep.proofs.Applied.{layout-fits}
-use Rattle.sweep.proofs.Answered.{passes, written-drawn, written-length}
-use Rattle.listing.specs.Text.{drawn, refusal}
-use Rattle.listing.specs.Listing.{textBy, channelText}
-use Rattle.listing.specs.Put.{Room}
+use Rattle.sweep.proofs.Answered.{passes, refuses, written-drawn, written-length}
+use Rattle.listing.specs.declared.Listed.the-variants as listed
+use Rattle.listing.specs.Text.{drawn}
+use Rattle.listing.specs.Listing.{channelText}
+use Rattle.listing.specs.Working.{Room, Put, Lists}
+use Rattle.listing.proofs.Put.{put-laid, counted}
 use Rattle.listing.proofs.Front.{drawn-front}
 use Rattle.listing.proofs.Size.{drawn-room, figures-few}
 
--- the text of a refusal
-pub text-refused : (k : ℕ) (top bottom : List ℕ) → k ≢ 0 → refusal k ≡ textBy k top bottom
-text-refused zero top bottom n = absurd (n refl)
-text-refused (suc k) top bottom n = refl
+-- THE ANSWERS
+-- a refusal: the number, and the text as it was
+pub refused-lists : (k j : ℕ) (new old : List ℕ) → k ≡ j → k ≢ 0 → Lists k new old (listed.Refused j) old
+refused-lists zero j new old e n = absurd (n refl)
+refused-lists (suc k) j new old e n = record { answer = ap listed.Refused (sym e); text = refl; counts = (omega arith, refl) }
 
+-- a text that was put
+pub put-lists : (k : ℕ) (new old : List ℕ) (e : ℕ) (now : List ℕ) → k ≡ 0 → Put old 0 new e now → Lists k new old (listed.Text e) now
+put-lists zero new old e now z p = record { answer = ap listed.Text (put-laid p .0); text = put-laid p .1; counts = counted p }
+put-lists (suc k) new old e now z p = absurd (omega arith)
+
+-- THE DRAWING
 -- what the listing of a drawing asks: the figures and the slice that routing leaves
 pub record Drawable (top bottom : List ℕ) (x : Figures) (slice : List ℕ) : Type 0 where
   pub long : x .width * (2 * x .tracks + 1) ≤ length slice
@@ -43,13 +48,6 @@ pub record Drawable (top bottom : List ℕ) (x : Figures) (slice : List ℕ) : T
   pub text : drawn (x .density) (x .tracks) (x .width) slice ≡ channelText top bottom
 
 module _ (top bottom : List ℕ) where
-  -- refused rows
-  pub rows-text : (r : RowCheck) (j k : ℕ) → r ≡ rowCheck top bottom 64 → r ≡ rows.Refused j → k ≡ numberOf r
-      → refusal k ≡ channelText top bottom
-  rows-text r j k e f g =
-      let h : k ≡ rowsRefused top bottom 64 = g ∙ ap numberOf e ∙ check-number top bottom 64 in
-      ap refusal h ∙ text-refused (rowsRefused top bottom 64) top bottom (answers.refused top bottom 64 r j e f)
-
   -- the tracks by the density
   tracks-by : (tracks top bottom ≡ density top bottom) ⊎ (tracks top bottom ≡ 2 * density top bottom - 1)
   tracks-by = go (twoPin top bottom) refl
@@ -91,40 +89,62 @@ module _ (top bottom : List ℕ) where
             ⊎-elim (λ (z : v ≡ 0). absurd (n z)) (λ (p : 0 < pins top bottom v). absurd (omega (arith, rows-fit top bottom accepted .small v l)))
             (solved top bottom accepted .nets i (at-below (layout top bottom) i v n refl))
 
-    -- routing answers the figures
-    routed : (lent : ℕ) (r : Routed) → 32385 ≡ lent → r ≡ answer top bottom lent → r ≡ Drawn (figures top bottom)
-    unfolding answer
-    routed lent r l e = e ∙ ap (λ k. routedBy k (figures top bottom)) (passes top bottom lent accepted (omega (arith, small .2)))
-
-    -- so it does not refuse
-    pub never : (lent : ℕ) (r : Routed) (j : ℕ) → 32385 ≡ lent → r ≡ answer top bottom lent → r ≡ Refused j → ⊥
-    never lent r j l e f = let g = routed lent r l e in let z : _≡_ {A = ℕ} 0 1 = cc in omega arith
+    -- routing draws
+    drawn-by : (lent : ℕ) → 32385 ≡ lent → refused top bottom 64 lent ≡ 0
+    drawn-by lent l = passes top bottom 64 lent ok (omega (arith, small .2))
 
     -- and its drawing can be listed
-    leaves : (old : List ℕ) → 32385 ≡ length old → Drawable top bottom (figures top bottom) (written top bottom old)
+    leaves : (old : List ℕ) → 32385 ≡ length old → Drawable top bottom (figures top bottom) (written top bottom 64 old)
     unfolding figures
     leaves old l =
-        let p = passes top bottom (length old) accepted (omega (arith, small .2)) in
+        let p = drawn-by (length old) l in
         let s = layout-fits top bottom accepted (length old) (omega (arith, small .2)) in
-        let w : written top bottom old ≡ layout top bottom ++ drop (length (layout top bottom)) old = written-drawn top bottom old p in
-        let f : drawn (density top bottom) (tracks top bottom) (width top bottom) (written top bottom old)
-        ≡ drawn (density top bottom) (tracks top bottom) (width top bottom) (layout top bottom) =
-        ap (λ z. drawn (density top bottom) (tracks top bottom) (width top bottom) z) w
+        let f : drawn (density top bottom) (tracks top bottom) (width top bottom) (written top bottom 64 old) ≡ channelText top bottom =
+        ap (λ z. drawn (density top bottom) (tracks top bottom) (width top bottom) z) (written-drawn top bottom 64 old p)
         ∙ drawn-front (layout top bottom) (drop (length (layout top bottom)) old) (density top bottom) (tracks top bottom) (width top bottom)
         (omega (arith, layout-length top bottom accepted)) in
         record {
-          long = omega (arith, written-length top bottom old p);
+          long = omega (arith, written-length top bottom 64 old p);
           few = small .0;
           room = λ text e. subst (λ z. Room text 0 z) (sym f)
               (drawn-room (layout top bottom) entries-few text (density top bottom) (tracks top bottom) (width top bottom) e
               (omega (arith, density-few top bottom (rows-fit top bottom accepted .same), short)) (small .0) (small .1));
-          text = f ∙ ap (λ k. textBy k top bottom) (sym ok);
+          text = f;
         }
 
-    -- with the figures that it answers
-    pub drawable : (old slice : List ℕ) (r : Routed) (x : Figures) → 32385 ≡ length old → r ≡ answer top bottom (length old) → r ≡ Drawn x
-        → slice ≡ written top bottom old → Drawable top bottom x slice
-    drawable old slice r x l e f g =
-        let h = routed (length old) r l e in
-        let k : figures top bottom ≡ x = cc in
-        subst (λ z. Drawable top bottom z slice) k (subst (λ z. Drawable top bottom (figures top bottom) z) (sym g) (leaves old l))
+  -- routing refuses what the rows refuse
+  rows-refused : (lent : ℕ) → 32385 ≡ lent → refused top bottom 64 lent ≡ rowsRefused top bottom 64
+  unfolding refused
+  rows-refused lent l = go (rowsRefused top bottom 64) refl
+    where
+      go : (k : ℕ) → rowsRefused top bottom 64 ≡ k → refused top bottom 64 lent ≡ k
+      go zero e = drawn-by e lent l
+      go (suc k) e = refuses top bottom 64 lent (suc k) e (omega arith)
+
+  -- what it answers and leaves
+  module _ (old : List ℕ) (r : Routed) (l : 32385 ≡ length old) (e : r ≡ answer top bottom 64 (length old)) where
+    -- a refusal of the rows
+    pub channel-refused : (j : ℕ) (text : List ℕ) → r ≡ Refused j → Lists (rowsRefused top bottom 64) (channelText top bottom) text (listed.Refused j) text
+    unfolding answer
+    channel-refused j text f = go (refused top bottom 64 (length old)) refl (sym f ∙ e)
+      where
+        go : (k : ℕ) → refused top bottom 64 (length old) ≡ k → Refused j ≡ routedBy k (figures top bottom)
+            → Lists (rowsRefused top bottom 64) (channelText top bottom) text (listed.Refused j) text
+        go zero h g = absurd (let z : _≡_ {A = ℕ} 0 1 = cc in omega arith)
+        go (suc k) h g =
+            let a : rowsRefused top bottom 64 ≡ suc k = sym (rows-refused (length old) l) ∙ h in
+            let b : j ≡ suc k = cc in
+            refused-lists (rowsRefused top bottom 64) j (channelText top bottom) text (a ∙ sym b) (omega arith)
+
+    -- or a drawing of accepted rows
+    pub channel-drawn : (x : Figures) (slice : List ℕ) → r ≡ Drawn x → slice ≡ written top bottom 64 old → (rowsRefused top bottom 64 ≡ 0) × Drawable top bottom x slice
+    unfolding answer
+    channel-drawn x slice f g = go (refused top bottom 64 (length old)) refl (sym f ∙ e)
+      where
+        go : (k : ℕ) → refused top bottom 64 (length old) ≡ k → Drawn x ≡ routedBy k (figures top bottom)
+            → (rowsRefused top bottom 64 ≡ 0) × Drawable top bottom x slice
+        go zero h d =
+            let a : rowsRefused top bottom 64 ≡ 0 = sym (rows-refused (length old) l) ∙ h in
+            let k : figures top bottom ≡ x = cc in
+            (a, subst (λ z. Drawable top bottom z slice) k (subst (λ z. Drawable top bottom (figures top bottom) z) (sym g) (leaves a old l)))
+        go (suc k) h d = absurd (let z : _≡_ {A = ℕ} 0 1 = cc in omega arith)

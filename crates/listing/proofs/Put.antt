@@ -10,8 +10,9 @@ use lib.ListN.{length, take, drop, set, length-append, length-set, take-append-d
 use lib.Seq.{set-split, take-at, drop-at, drop-drop, length-take-le}
 use lib.Dec.{ltb}
 use borrow.Author.Tests.{ltb-true, ltb-false}
-use Rattle.listing.specs.Written.{Written, Counts}
-use Rattle.listing.specs.Put.{Room, over, Put}
+use Rattle.record.specs.Record.{laid}
+use Rattle.record.specs.Counts.{Counts}
+use Rattle.listing.specs.Working.{Room, over, Put}
 
 -- nothing put over a text
 over-none : (old : List ℕ) (at : ℕ) → over old at [] ≡ old
@@ -73,11 +74,10 @@ put-then {old} {at} {a} {m} {mid} {b} {e} {now} p q =
 pub put-as : {old : List ℕ} {at : ℕ} {a : List ℕ} {e : ℕ} {now : List ℕ} → Put old at a e now → (b : List ℕ) → a ≡ b → Put old at b e now
 put-as {old} {at} {a} {e} {now} p b h = subst (λ z. Put old at z e now) h p
 
--- a text put from the start on: its bytes, then the old ones
-pub written : {old new : List ℕ} {e : ℕ} {now : List ℕ} → Put old 0 new e now → Written old new e now
+-- a text put from the start on: its bytes, then the old ones; and how many they are
+pub put-laid : {old new : List ℕ} {e : ℕ} {now : List ℕ} → Put old 0 new e now → (e ≡ length new) × (now ≡ laid new old)
 unfolding over
-written {old} {new} {e} {now} p =
-    record { bytes = p .holds ∙ ap (λ z. new ++ drop z old) (zero-add (length new)); count = p .ends ∙ zero-add (length new) }
+put-laid {old} {new} {e} {now} p = (p .ends ∙ zero-add (length new), p .holds ∙ ap (λ z. new ++ drop z old) (zero-add (length new)))
 
 -- the bytes put can be taken as a part
 pub counted : {old : List ℕ} {at : ℕ} {new : List ℕ} {e : ℕ} {now : List ℕ} → Put old at new e now → Counts e now

@@ -8,7 +8,7 @@ use mathlib.Core.List.{List, [], _∷_, _++_}
 use lib.ListN.{length, getD, length-append}
 use Rattle.listing.specs.Digits.{decimal}
 use Rattle.listing.specs.Text.{cells, columnAt, lineAt, lines, header, drawn, densityWord, tracksWord, widthWord}
-use Rattle.listing.specs.Put.{Room}
+use Rattle.listing.specs.Working.{Room}
 use Rattle.listing.proofs.Digits.{three-digits}
 
 -- the first line
@@ -69,7 +69,7 @@ module _ (xs : List ℕ) (few : (i : ℕ) → getD xs i 0 < 1000) where
       )
 
   -- a listing of at most 127 columns and tracks with numbers below a thousand
-  pub drawn-size : (d t w : ℕ) → d < 1000 → t ≤ 127 → w ≤ 127 → length (drawn d t w xs) ≤ 130462
+  drawn-size : (d t w : ℕ) → d < 1000 → t ≤ 127 → w ≤ 127 → length (drawn d t w xs) ≤ 130462
   unfolding drawn
   drawn-size d t w x h l =
       omega (arith, length-append (header d t w) (lines xs t w), lines-size t w h l, header-size d t w x (omega arith) (omega arith))

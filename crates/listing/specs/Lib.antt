@@ -1,5 +1,5 @@
+-- What the customer must believe of the listing: `Digits`, `Text` and `Listing`; `Working` serves private functions alone.
 pub mod Digits
 pub mod Text
 pub mod Listing
-pub mod Written
-pub mod Put
+pub mod Working

@@ -1,19 +1,47 @@
-// The listing of a record: of its channel's drawing, or of a refusal.
-use grid::RowCheck;
+// The listing of a record: the text of its channel's drawing; the line of a refusal; what `knee` writes.
 use record::Reading;
 use sweep::Routed;
 ghost use mathlib.Core.Path.{_≡_};
 ghost use mathlib.Core.List.{_∷_, [], _++_};
 ghost use Prim.Native.Nat.{_+_, _*_, _≤_, _<_};
 ghost use lib.ListN.{length};
+ghost use Rattle.grid.specs.Channel.{rowsRefused};
+ghost use Rattle.grid.specs.Refusals.{ifAccepted};
+ghost use Rattle.record.specs.Record.{laid};
+ghost use Rattle.record.specs.Counts.{Counts};
 ghost use Rattle.listing.specs.Digits.{decimal};
 ghost use Rattle.listing.specs.Text.{cells, columnAt, lineAt, lines, header, drawn, refusal};
-ghost use Rattle.listing.specs.Put.{Put, Room};
-ghost use Rattle.listing.specs.Listing.{channelText, listed};
-ghost use Rattle.listing.specs.Written.{Written, Counts};
+ghost use Rattle.listing.specs.Listing.{numberOf, lengthOf, channelText, refused, textOf, listed, output};
+ghost use Rattle.listing.specs.Working.{Room, Put, Lists};
 
 // The bytes of the text that a call is lent: the longest listing fits.
 pub const ROOM: usize = 131072;
+
+// The bytes of the text, or the number of the refusal.
+pub enum Listed {
+    Text(usize),
+    Refused(u16),
+}
+
+// The number of an answer, 0 for a listing.
+pub fn number_of(r: Listed) -> u16
+    ensures { λ k. ⌜ k ≡ numberOf r ⌝ }
+{
+    match r {
+        Listed::Text(_) => 0,
+        Listed::Refused(k) => k,
+    }
+}
+
+// The bytes of its text, 0 for a refusal.
+pub fn length_of(r: Listed) -> usize
+    ensures { λ n. ⌜ n ≡ lengthOf r ⌝ }
+{
+    match r {
+        Listed::Text(n) => n,
+        Listed::Refused(_) => 0,
+    }
+}
 
 // A byte at a place. Each function here returns the place after what it put.
 fn put_byte(text: &mut [u8], at: usize, b: u8) -> usize
@@ -139,7 +167,7 @@ fn put_listing(layout: &[u16], d: usize, t: usize, w: usize, text: &mut [u8]) ->
     put_lines(text, end, layout, t, w)
 }
 
-// The listing of a refusal; how many bytes it has.
+// The line of a refusal; how many bytes it has.
 fn put_refusal(number: u16, text: &mut [u8]) -> usize
     requires { ⌜ 14 ≤ length (now text) ⌝ }
     ensures { λ r. ⌜ Put (now (text .entry)) 0 (refusal number) r (now (text .exit)) ⌝ }
@@ -162,32 +190,55 @@ fn no_layout() -> [u16; 32385]
     [0u16; 32385]
 }
 
-// The listing of a channel. Routing refuses no rows that are accepted here, and the layout is long enough for them: it draws.
-fn list_channel(top: &[u16], bottom: &[u16], text: &mut [u8]) -> usize
+// The listing of a channel of at most 64 columns. The layout is long enough for it.
+fn list_channel(top: &[u16], bottom: &[u16], text: &mut [u8]) -> Listed
     requires { ⌜ length (now text) ≡ 131072 ⌝ }
-    ensures { λ r. ⌜ Put (now (text .entry)) 0 (channelText (now (top .entry)) (now (bottom .entry))) r (now (text .exit)) ⌝ }
+    ensures { λ r. ⌜ Lists (rowsRefused (now (top .entry)) (now (bottom .entry)) 64) (channelText (now (top .entry)) (now (bottom .entry))) (now (text .entry)) r (now (text .exit)) ⌝ }
 {
-    let r = grid::check_rows(top, bottom, 64);
-    let RowCheck::Fit(_) = r else {
-        return put_refusal(grid::number_of(r), text);
-    };
     let mut layout = no_layout();
-    let Routed::Drawn(f) = sweep::route(top, bottom, &mut layout) else {
-        return 0;
-    };
-    put_listing(&layout, f.density, f.tracks, f.width, text)
+    let r = sweep::route_within(top, bottom, 64, &mut layout);
+    match r {
+        Routed::Drawn(f) => Listed::Text(put_listing(&layout, f.density, f.tracks, f.width, text)),
+        Routed::Refused(k) => Listed::Refused(k),
+    }
 }
 
-// The listing of a record, at the front of the text; how many bytes it has. What stands behind it stays.
-pub fn list(bytes: &[u8], text: &mut [u8; ROOM]) -> usize
-    ensures written { λ r. ⌜ Written (now (text .entry)) (listed (now (bytes .entry))) r (now (text .exit)) ⌝ }
-    ensures counts { λ r. ⌜ Counts r (now (text .exit)) ⌝ }
+// The listing of a record, at the front of the text; what stands behind it stays. A refused record leaves the text as it is.
+pub fn list(bytes: &[u8], text: &mut [u8; ROOM]) -> Listed
+    ensures answer { λ r. ⌜ r ≡ listed (now (bytes .entry)) ⌝ }
+    ensures number { λ r. ⌜ numberOf r ≡ refused (now (bytes .entry)) ⌝ }
+    ensures length { λ r. ⌜ lengthOf r ≡ ifAccepted (numberOf r) (length (textOf (now (bytes .entry)))) 0 ⌝ }
+    ensures text { λ r. ⌜ now (text .exit) ≡ ifAccepted (numberOf r) (laid (textOf (now (bytes .entry))) (now (text .entry))) (now (text .entry)) ⌝ }
+    ensures counts { λ r. ⌜ Counts (lengthOf r) (now (text .exit)) ⌝ }
 {
     let mut top = no_pins();
     let mut bottom = no_pins();
     let r = record::read(bytes, &mut top, &mut bottom);
     match r {
         Reading::Channel(n) => list_channel(&top[..n], &bottom[..n], text),
-        Reading::Refused(k) => put_refusal(k, text),
+        Reading::Refused(k) => Listed::Refused(k),
     }
+}
+
+// The line of a refusal, as `refused 7`, at the front of the text; how many bytes it has. What stands behind it stays.
+pub fn put_refusal_line(number: u16, text: &mut [u8; ROOM]) -> usize
+    ensures length { λ r. ⌜ r ≡ length (refusal number) ⌝ }
+    ensures text { λ _. ⌜ now (text .exit) ≡ laid (refusal number) (now (text .entry)) ⌝ }
+    ensures counts { λ r. ⌜ Counts r (now (text .exit)) ⌝ }
+{
+    put_refusal(number, text)
+}
+
+// What `knee` writes: the listing of a record, or the line of its refusal, at the front of the text; how many bytes it has. What stands behind it stays.
+pub fn put_output(bytes: &[u8], text: &mut [u8; ROOM]) -> usize
+    ensures length { λ r. ⌜ r ≡ length (output (now (bytes .entry))) ⌝ }
+    ensures text { λ _. ⌜ now (text .exit) ≡ laid (output (now (bytes .entry))) (now (text .entry)) ⌝ }
+    ensures counts { λ r. ⌜ Counts r (now (text .exit)) ⌝ }
+{
+    let r = list(bytes, text);
+    let k = number_of(r);
+    if k == 0 {
+        return length_of(r);
+    }
+    put_refusal_line(k, text)
 }

@@ -1,4 +1,4 @@
-// Writes the listing of each record on standard input. A record stands after a two-byte count of its bytes, little-endian; the count is no part of it, so
+// Writes the listing of each record on standard input, or the line of its refusal. A record stands after a two-byte count of its bytes, little-endian; the count is no part of it, so
 // that damaged records can be among them. A count that reaches past the input ends the program.
 ghost use Prim.Native.Nat.{_+_, _<_, _≤_};
 ghost use lib.ListN.{length};
@@ -21,10 +21,10 @@ fn wide(b: u8) -> usize
     b as usize
 }
 
-// The listing of one record.
+// The listing of one record, or the line of its refusal.
 fn show(bytes: &[u8]) {
     let mut text = room();
-    let size = listing::list(bytes, &mut text);
+    let size = listing::put_output(bytes, &mut text);
     io::write_all(1, &text[..size]);
 }
 

@@ -8,12 +8,14 @@ use lib.ListN.{length, getD, take, drop, set, length-append}
 use lib.Seq.{drop-cons, set-at, take-at, length-take-le}
 use Rattle.record.specs.declared.Reading.{Reading}
 use Rattle.record.specs.declared.Reading.the-variants.{Channel, Refused}
+use Rattle.grid.specs.Refusals.{ifAccepted}
+use Rattle.grid.proofs.Answers.{accepted-old}
 use Rattle.record.specs.Record.{word, recordRefused, number, columns, recordRead, row, topRow, bottomRow, laid}
 use Rattle.record.specs.Counts.{Counts}
-use Rattle.record.proofs.Table.{sized, numbered, refused-is, channel-is}
+use Rattle.record.proofs.Table.{sized, numbered, columns-by, refused-is, channel-is}
 
 -- a row has as many numbers as it is asked for
-pub row-length : (s : List ℕ) (at k : ℕ) → length (row s at k) ≡ k
+row-length : (s : List ℕ) (at k : ℕ) → length (row s at k) ≡ k
 unfolding row
 row-length s at zero = refl
 row-length s at (suc k) = length-append (row s at k) (word s (at + 2 * k) ∷ []) ∙ omega (arith, row-length s at k)
@@ -40,7 +42,7 @@ pub laid-all : (s : List ℕ) (at k n : ℕ) (old now : List ℕ) → now ≡ la
 laid-all s at k n old now e h l = e ∙ ap (λ z. laid (row s at z) old) (omega arith)
 
 -- both rows have as many numbers as the channel has columns
-pub rows-length : (s : List ℕ) → (length (topRow s) ≡ columns (recordRead s)) × (length (bottomRow s) ≡ columns (recordRead s))
+rows-length : (s : List ℕ) → (length (topRow s) ≡ columns (recordRead s)) × (length (bottomRow s) ≡ columns (recordRead s))
 unfolding topRow bottomRow
 rows-length s = (row-length s 6 (columns (recordRead s)), row-length s (6 + 2 * columns (recordRead s)) (columns (recordRead s)))
 
@@ -53,43 +55,39 @@ rows-taken s n top bottom e =
       take-at (bottomRow s) (drop (length (bottomRow s)) bottom) n (r .1 ∙ sym (ap columns e)),
     )
 
--- what reading ensures: the answer, its number, and what the arrays hold after it
+-- what reading ensures: the answer, its number, what the arrays hold after it, and its columns, which fit in them
 abbrev pub Ensured : List ℕ → Reading → List ℕ → List ℕ → List ℕ → List ℕ → Type 0
 Ensured s r top top′ bottom bottom′ =
     (r ≡ recordRead s)
     × ((number r ≡ recordRefused s)
-    × ((top′ ≡ laid (topRow s) top)
-    × ((bottom′ ≡ laid (bottomRow s) bottom) × (Counts (columns r) top′ × Counts (columns r) bottom′))))
+    × ((top′ ≡ ifAccepted (number r) (laid (topRow s) top) top)
+    × ((bottom′ ≡ ifAccepted (number r) (laid (bottomRow s) bottom) bottom)
+    × ((columns r ≡ ifAccepted (number r) (word s 4) 0) × (Counts (columns r) top′ × Counts (columns r) bottom′)))))
 
 -- a part that fits
 counts : (n : ℕ) (xs : List ℕ) → n ≤ length xs → Counts n xs
 counts n xs h = (h, sym (length-take-le n xs h))
 
--- all that is ensured, from the answer and the two rows
-answered : (s : List ℕ) (r : Reading) (top top′ bottom bottom′ : List ℕ) → r ≡ recordRead s → top′ ≡ laid (row s 6 (columns r)) top
-    → bottom′ ≡ laid (row s (6 + 2 * columns r) (columns r)) bottom → columns r ≤ length top′ → columns r ≤ length bottom′
+-- all that is ensured, from the answer and what the arrays hold
+answered : (s : List ℕ) (r : Reading) (top top′ bottom bottom′ : List ℕ) → r ≡ recordRead s → top′ ≡ ifAccepted (number r) (laid (topRow s) top) top
+    → bottom′ ≡ ifAccepted (number r) (laid (bottomRow s) bottom) bottom → columns r ≤ length top′ → columns r ≤ length bottom′
     → Ensured s r top top′ bottom bottom′
-unfolding topRow bottomRow
-answered s r top top′ bottom bottom′ e f g k l = (
-  e,
-  (
-    ap number e ∙ numbered s,
-    (
-      f ∙ ap (λ z. laid (row s 6 (columns z)) top) e,
-      (g ∙ ap (λ z. laid (row s (6 + 2 * columns z) (columns z)) bottom) e, (counts (columns r) top′ k, counts (columns r) bottom′ l)),
-    ),
-  ),
-)
+answered s r top top′ bottom bottom′ e f g k l =
+    (e, (ap number e ∙ numbered s, (f, (g, (columns-by s r e, (counts (columns r) top′ k, counts (columns r) bottom′ l))))))
 
 -- a refusal: the arrays are as they were
 pub refused : (s : List ℕ) (k : ℕ) (top bottom : List ℕ) → k ≡ recordRefused s → (k ≡ 0 → ⊥) → Ensured s (Refused k) top top bottom bottom
 refused s k top bottom e h =
-    answered s (Refused k) top top bottom bottom (refused-is s k e h) (laid-none s 6 top) (laid-none s (6 + 2 * 0) bottom) (omega arith) (omega arith)
+    answered s (Refused k) top top bottom bottom (refused-is s k e h) (sym (accepted-old k (laid (topRow s) top) top h))
+    (sym (accepted-old k (laid (bottomRow s) bottom) bottom h)) (omega arith) (omega arith)
 
 -- a channel: the arrays hold its rows
 pub accepted : (s : List ℕ) (k n : ℕ) (top top′ bottom bottom′ : List ℕ) → k ≡ recordRefused s → k ≡ 0 → n ≡ word s 4
     → top′ ≡ laid (row s 6 n) top → bottom′ ≡ laid (row s (6 + 2 * n) n) bottom → 256 ≤ length top′ → 256 ≤ length bottom′
     → Ensured s (Channel n) top top′ bottom bottom′
+unfolding topRow bottomRow
 accepted s k n top top′ bottom bottom′ e h f g l a b =
     let w = sized s k e h in
-    answered s (Channel n) top top′ bottom bottom′ (channel-is s k n e h f) g l (omega (arith, w .short, w .exact)) (omega (arith, w .short, w .exact))
+    let c = channel-is s k n e h f in
+    answered s (Channel n) top top′ bottom bottom′ c (g ∙ ap (λ (z : Reading). laid (row s 6 (columns z)) top) c)
+    (l ∙ ap (λ (z : Reading). laid (row s (6 + 2 * columns z) (columns z)) bottom) c) (omega (arith, w .short, w .exact)) (omega (arith, w .short, w .exact))

@@ -1,14 +1,18 @@
 -- The rows 1 to 3 of the table: the number at each way out of the check, and what holds where nothing is refused. Assumes nothing.
 use Prim.Native.Nat.{ℕ, zero, suc, _+_, _*_, _-_, _≤_, _<_}
 use native.Mathlib.Omega.{arith}
-use mathlib.Core.Bool.{Bool, true, false, not, _||_}
+use mathlib.Core.Bool.{Bool, true, false}
 use mathlib.Core.Path.{_≡_, refl, ap, sym, _∙_}
 use mathlib.Core.List.{List}
 use lib.Dec.{ltb}
 use lib.ListN.{length}
 use borrow.Author.Tests.{lt-ltb, le-ltb, eq-eqb, ne-eqb, ltb-false, eqb-true, not-false}
+use Rattle.record.specs.declared.Reading.{Reading}
 use Rattle.record.specs.declared.Reading.the-variants.{Channel, Refused}
-use Rattle.record.specs.Record.{word, wrongLength, wrongKind, wrongBody, pick, recordRefused, number, columns, answer, recordRead}
+use Rattle.grid.specs.Channel.{pick}
+use Rattle.grid.specs.Refusals.{ifAccepted}
+use Rattle.grid.proofs.Tests.{or-false}
+use Rattle.record.specs.Record.{word, wrongLength, wrongKind, wrongBody, recordRefused, number, columns, answer, recordRead}
 
 module _ (s : List ℕ) where
   -- under 4 bytes
@@ -74,16 +78,11 @@ module _ (s : List ℕ) where
                 )
 
 -- a number 0 that tests choose: none of them holds
-all-false : (a b c : Bool) → pick a 1 (pick b 2 (pick c 3 0)) ≡ 0 → (a ≡ false) × (c ≡ false)
+all-false : (a b c : Bool) → _≡_ {A = ℕ} (pick a 1 (pick b 2 (pick c 3 0))) 0 → (a ≡ false) × (c ≡ false)
 all-false true b c h = absurd (omega (arith, h))
 all-false false true c h = absurd (omega (arith, h))
 all-false false false true h = absurd (omega (arith, h))
 all-false false false false h = (refl, refl)
-
--- neither of two
-or-false : (a b : Bool) → (a || b) ≡ false → (a ≡ false) × (b ≡ false)
-or-false true b h = (h, cc)
-or-false false b h = (refl, h)
 
 -- what a record that is not refused measures
 pub record Whole (s : List ℕ) : Type 0 where
@@ -114,6 +113,15 @@ module _ (s : List ℕ) where
       go zero = refl
       go (suc k) = refl
 
+  -- and the table's columns: as many as the record says, none on refusal
+  pub columns-by : (r : Reading) → r ≡ recordRead s → columns r ≡ ifAccepted (number r) (word s 4) 0
+  unfolding recordRead
+  columns-by r e = ap columns e ∙ go (recordRefused s) ∙ ap (λ (z : Reading). ifAccepted (number z) (word s 4) 0) (sym e)
+    where
+      go : (k : ℕ) → columns (answer k (word s 4)) ≡ ifAccepted (number (answer k (word s 4))) (word s 4) 0
+      go zero = refl
+      go (suc k) = refl
+
   -- a refusal, from its number
   pub refused-is : (k : ℕ) → k ≡ recordRefused s → (k ≡ 0 → ⊥) → Refused k ≡ recordRead s
   unfolding recordRead
@@ -124,12 +132,3 @@ module _ (s : List ℕ) where
   pub channel-is : (k n : ℕ) → k ≡ recordRefused s → k ≡ 0 → n ≡ word s 4 → Channel n ≡ recordRead s
   unfolding recordRead
   channel-is k n e h f = ap Channel f ∙ ap (λ z. answer z (word s 4)) (sym h ∙ e)
-
-  -- a record's channel has at most 256 columns
-  pub few-columns : columns (recordRead s) ≤ 256
-  unfolding recordRead
-  few-columns = go (recordRefused s) refl
-    where
-      go : (k : ℕ) → recordRefused s ≡ k → columns (answer k (word s 4)) ≤ 256
-      go zero e = let w = sized s 0 (sym e) refl in omega (arith, w .exact, w .short)
-      go (suc k) e = omega arith

@@ -1,9 +1,10 @@
 -- Document 01, "Record and listing" and the table's rows 1 to 3: what the bytes of a record say. Places are counted from 0.
 use Prim.Native.Nat.{ℕ, zero, suc, _+_, _*_, _-_}
-use mathlib.Core.Bool.{Bool, true, false, not, _||_}
+use mathlib.Core.Bool.{Bool, not, _||_}
 use mathlib.Core.List.{List, [], _∷_, _++_}
 use lib.Dec.{eqb, ltb}
 use lib.ListN.{length, getD, drop}
+use Rattle.grid.specs.Channel.{pick}
 use Rattle.record.specs.declared.Reading.{Reading}
 use Rattle.record.specs.declared.Reading.the-variants.{Channel, Refused}
 
@@ -23,16 +24,11 @@ wrongKind s = not (eqb (word s 2) 1)
 unfoldable pub wrongBody : List ℕ → Bool
 wrongBody s = ltb (length s - 4) 2 || not (eqb (length s - 4) (2 + 4 * word s 4))
 
--- the one of two that a test chooses
-abbrev pub pick : Bool → ℕ → ℕ → ℕ
-pick true a b = a
-pick false a b = b
-
 -- "Checked from the top down": the number of the refusal, 0 for none
 unfoldable pub recordRefused : List ℕ → ℕ
 recordRefused s = pick (wrongLength s) 1 (pick (wrongKind s) 2 (pick (wrongBody s) 3 0))
 
--- the document's number for each case of an answer
+-- the document's number for each case of an answer: "The number on acceptance is 0"
 abbrev pub number : Reading → ℕ
 number (Channel n) = 0
 number (Refused k) = k

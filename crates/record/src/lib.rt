@@ -2,6 +2,7 @@
 ghost use mathlib.Core.Path.{_≡_};
 ghost use Prim.Native.Nat.{_+_, _*_, _≤_, _<_};
 ghost use lib.ListN.{length};
+ghost use Rattle.grid.specs.Refusals.{ifAccepted};
 ghost use Rattle.record.specs.Record.{word as Record·word, recordRefused, recordRead, number, columns, row, topRow, bottomRow, laid};
 ghost use Rattle.record.specs.Counts.{Counts};
 
@@ -69,11 +70,12 @@ fn put_row(s: &[u8], at: usize, n: usize, out: &mut [u16])
 
 // The rows of a channel, into the first elements of two arrays. A refused record leaves them as they are.
 pub fn read(bytes: &[u8], top: &mut [u16; 256], bottom: &mut [u16; 256]) -> Reading
-    ensures { λ r. ⌜ r ≡ recordRead (now (bytes .entry)) ⌝ }
-    ensures { λ r. ⌜ number r ≡ recordRefused (now (bytes .entry)) ⌝ }
-    ensures { λ _. ⌜ now (top .exit) ≡ laid (topRow (now (bytes .entry))) (now (top .entry)) ⌝ }
-    ensures { λ _. ⌜ now (bottom .exit) ≡ laid (bottomRow (now (bytes .entry))) (now (bottom .entry)) ⌝ }
-    ensures { λ r. ⌜ Counts (columns r) (now (top .exit)) × Counts (columns r) (now (bottom .exit)) ⌝ }
+    ensures answer { λ r. ⌜ r ≡ recordRead (now (bytes .entry)) ⌝ }
+    ensures number { λ r. ⌜ number r ≡ recordRefused (now (bytes .entry)) ⌝ }
+    ensures top { λ r. ⌜ now (top .exit) ≡ ifAccepted (number r) (laid (topRow (now (bytes .entry))) (now (top .entry))) (now (top .entry)) ⌝ }
+    ensures bottom { λ r. ⌜ now (bottom .exit) ≡ ifAccepted (number r) (laid (bottomRow (now (bytes .entry))) (now (bottom .entry))) (now (bottom .entry)) ⌝ }
+    ensures columns { λ r. ⌜ columns r ≡ ifAccepted (number r) (Record·word (now (bytes .entry)) 4) 0 ⌝ }
+    ensures counts { λ r. ⌜ Counts (columns r) (now (top .exit)) × Counts (columns r) (now (bottom .exit)) ⌝ }
 {
     let k = refusal(bytes);
     if k != 0 {

@@ -1,6 +1,7 @@
--- The laws of the net report; `Arrays` and `Tests` are steps of walks by hand.
+-- The laws of the net report; `Arrays`, `Tests` and `Clauses` are steps of walks by hand.
 pub mod Arrays
 pub mod Tests
+pub mod Clauses
 pub mod Records
 pub mod Answers
 pub mod Contents

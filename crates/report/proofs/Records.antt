@@ -8,9 +8,9 @@ use lib.ListN.{length, take, drop, getD, set, length-append, length-drop}
 use lib.Seq.{take-suc, take-all, length-take-le, drop-cons, append-snoc, set-at}
 use Rattle.grid.specs.Channel.{pins}
 use Rattle.grid.specs.Nets.{firstColumn, lastColumn, table}
-use Rattle.grid.specs.Answers.{kept}
+use Rattle.grid.specs.Refusals.{ifAccepted}
 use Rattle.grid.proofs.Tables.{table-at}
-use Rattle.grid.proofs.Answers.{kept-new}
+use Rattle.grid.proofs.Answers.{accepted-new}
 use Rattle.report.specs.declared.NetRecord.{NetRecord}
 use Rattle.report.specs.Report.{upTo, records, recordOf, blankTable}
 use Rattle.report.specs.Working.{inTables}
@@ -28,7 +28,7 @@ module _ (xs ys : List NetRecord) (j : ℕ) (e : length xs ≡ j) where
       ∙ sym (append-snoc xs r (drop (suc j) ys)) ∙ ap (λ (k : ℕ). (xs ++ (r ∷ [])) ++ drop k ys) (sym (add-one j))
 
   -- the list keeps its length
-  pub as-long : j ≤ length ys → length (xs ++ drop j ys) ≡ length ys
+  as-long : j ≤ length ys → length (xs ++ drop j ys) ≡ length ys
   as-long h = simp (length-append, length-drop) (omega arith)
 
 -- the first m records of xs in place of those of ys
@@ -67,7 +67,7 @@ length-upTo f zero = refl
 length-upTo f (suc k) = simp length-append (omega (arith, length-upTo f k))
 
 -- one more
-pub upTo-suc : (f : ℕ → NetRecord) (k : ℕ) → upTo f k ++ (f (k + 1) ∷ []) ≡ upTo f (k + 1)
+upTo-suc : (f : ℕ → NetRecord) (k : ℕ) → upTo f k ++ (f (k + 1) ∷ []) ≡ upTo f (k + 1)
 unfolding upTo
 upTo-suc f k = ap (λ (m : ℕ). upTo f k ++ (f m ∷ [])) (add-one k) ∙ ap (upTo f) (sym (add-one k))
 
@@ -94,14 +94,14 @@ unfolding upTo
 upTo-same f g zero h = refl
 upTo-same f g (suc k) h = cc (upTo-same f g k (λ v a b. h v a (omega arith)), h (suc k) (omega arith) (omega arith))
 
--- the records from the tables that the row check leaves of accepted rows are the channel's
-pub gathered : (top bottom : List ℕ) (n : ℕ) → n ≡ 0 → (first last counts f l p : List ℕ) → first ≡ kept n (table (firstColumn top bottom)) f
-    → last ≡ kept n (table (lastColumn top bottom)) l → counts ≡ kept n (table (pins top bottom)) p → upTo (inTables first last counts) 256 ≡ records top bottom
+-- the records from the tables that the row check with the number n leaves of accepted rows are the channel's
+pub gathered : (top bottom : List ℕ) (n k : ℕ) → n ≡ k → k ≡ 0 → (first last counts f l p : List ℕ) → first ≡ ifAccepted n (table (firstColumn top bottom)) f
+    → last ≡ ifAccepted n (table (lastColumn top bottom)) l → counts ≡ ifAccepted n (table (pins top bottom)) p → upTo (inTables first last counts) 256 ≡ records top bottom
 unfolding records
-gathered top bottom n e first last counts f l p a b d = upTo-same (inTables first last counts) (recordOf top bottom) 256 at
+gathered top bottom n k i e first last counts f l p a b d = upTo-same (inTables first last counts) (recordOf top bottom) 256 at
   where
-    figure : (g : ℕ → ℕ) (x old : List ℕ) (v : ℕ) → 1 ≤ v → v ≤ 256 → x ≡ kept n (table g) old → getD x v 0 ≡ g v
-    figure g x old v h k z = ap (λ (y : List ℕ). getD y v 0) (z ∙ kept-new n (table g) old e) ∙ table-at g v h k
+    figure : (g : ℕ → ℕ) (x old : List ℕ) (v : ℕ) → 1 ≤ v → v ≤ 256 → x ≡ ifAccepted n (table g) old → getD x v 0 ≡ g v
+    figure g x old v h k z = ap (λ (y : List ℕ). getD y v 0) (z ∙ accepted-new n (table g) old (i ∙ e)) ∙ table-at g v h k
 
     at : (v : ℕ) → 1 ≤ v → v ≤ 256 → inTables first last counts v ≡ recordOf top bottom v
     at v h k = cc (figure (firstColumn top bottom) first f v h k a, figure (lastColumn top bottom) last l v h k b, figure (pins top bottom) counts p v h k d)

@@ -6,6 +6,7 @@ use lib.Dec.{ltb}
 use lib.ListN.{length, drop, replicate}
 use Rattle.grid.specs.Channel.{pick, pins, rowsRefused}
 use Rattle.grid.specs.Nets.{firstColumn, lastColumn}
+use Rattle.grid.specs.Refusals.{firstRefusal, ifAccepted}
 use Rattle.report.specs.declared.NetRecord.{NetRecord}
 use Rattle.report.specs.declared.Reported.{Reported}
 use Rattle.report.specs.declared.Reported.the-variants.{Filled, Refused}
@@ -19,11 +20,6 @@ numberOf (Refused k) = k
 abbrev pub answerOf : ℕ → Reported
 answerOf zero = Filled
 answerOf (suc k) = Refused (suc k)
-
--- a on acceptance, where the number is 0, and b on a refusal
-abbrev pub accepted : {A : Type 0} → ℕ → A → A → A
-accepted zero a b = a
-accepted (suc k) a b = b
 
 -- f at the numbers 1 to k
 unfoldable pub upTo : (ℕ → NetRecord) → ℕ → List NetRecord
@@ -45,7 +41,7 @@ module _ (top bottom : List ℕ) where
 
   -- The number of the refusal, 0 for none, "checked from the top down": those of the rows, 4 to 7, then 9 "net table under 256 records"
   unfoldable pub refused : (size : ℕ) → ℕ
-  refused size = accepted (rowsRefused top bottom 256) (pick (ltb size 256) 9 0) (rowsRefused top bottom 256)
+  refused size = firstRefusal (rowsRefused top bottom 256) (pick (ltb size 256) 9 0)
 
   -- the answer for a table
   unfoldable pub reported : List NetRecord → Reported
@@ -53,4 +49,4 @@ module _ (top bottom : List ℕ) where
 
   -- the contents of the table after the call: "A refused call writes to no lent slice or table"
   unfoldable pub tableAfter : List NetRecord → List NetRecord
-  tableAfter table = accepted (refused (length table)) (records ++ drop 256 table) table
+  tableAfter table = ifAccepted (refused (length table)) (records ++ drop 256 table) table

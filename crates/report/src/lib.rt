@@ -1,8 +1,10 @@
 // The net report: a lent table of net records is filled with the first column, last column and pin count of each net.
 ghost use mathlib.Core.Path.{_≡_};
 ghost use mathlib.Core.List.{_++_};
-ghost use Prim.Native.Nat.{ℕ, _≤_};
+ghost use Prim.Native.Nat.{_≤_};
 ghost use lib.ListN.{length, drop};
+ghost use Rattle.grid.specs.Channel.{rowsRefused};
+ghost use Rattle.grid.specs.Refusals.{ifAccepted};
 ghost use Rattle.report.specs.Report.{upTo, records as netRecords, refused, numberOf, reported, tableAfter, blankTable};
 ghost use Rattle.report.specs.Working.{inTables};
 use grid::RowCheck;
@@ -124,7 +126,9 @@ fn fill(table: &mut [NetRecord], records: [NetRecord; 256])
 
 // The net report. A refused call does not touch the table.
 pub fn report(top: &[u16], bottom: &[u16], table: &mut [NetRecord]) -> Reported
-    ensures { λ r. ⌜ (r ≡ reported (now (top .entry)) (now (bottom .entry)) (now (table .entry))) × (now (table .exit) ≡ tableAfter (now (top .entry)) (now (bottom .entry)) (now (table .entry))) ⌝ }
+    ensures answer { λ r. ⌜ r ≡ reported (now (top .entry)) (now (bottom .entry)) (now (table .entry)) ⌝ }
+    ensures number { λ r. ⌜ numberOf r ≡ refused (now (top .entry)) (now (bottom .entry)) (length (now (table .entry))) ⌝ }
+    ensures table { λ r. ⌜ now (table .exit) ≡ tableAfter (now (top .entry)) (now (bottom .entry)) (now (table .entry)) ⌝ }
 {
     let c = collect(top, bottom, table.len());
     if c.number != 0 {
@@ -134,9 +138,11 @@ pub fn report(top: &[u16], bottom: &[u16], table: &mut [NetRecord]) -> Reported
     Reported::Filled
 }
 
-// The net report into a table of its own. Its signature names no reference to records, so its callers lend none.
+// The net report into a table of its own, zeros on refusal. Its signature names no reference to records, so its callers lend none.
 pub fn table_of(top: &[u16], bottom: &[u16]) -> Reply
-    ensures { λ r. ⌜ (r .answer ≡ reported (now (top .entry)) (now (bottom .entry)) blankTable) × (r .table ≡ tableAfter (now (top .entry)) (now (bottom .entry)) blankTable) ⌝ }
+    ensures answer { λ r. ⌜ r .answer ≡ reported (now (top .entry)) (now (bottom .entry)) blankTable ⌝ }
+    ensures number { λ r. ⌜ numberOf (r .answer) ≡ rowsRefused (now (top .entry)) (now (bottom .entry)) 256 ⌝ }
+    ensures table { λ r. ⌜ r .table ≡ ifAccepted (numberOf (r .answer)) (netRecords (now (top .entry)) (now (bottom .entry))) blankTable ⌝ }
 {
     let mut table = blank();
     let answer = report(top, bottom, &mut table);

@@ -44,7 +44,7 @@ cases =
 -- what the definitions say of a case's channel and slice
 unfoldable pub reported : Case → Case
 reported c =
-    let x = answer (c .top) (c .bottom) (c .lent) in
+    let x = answer (c .top) (c .bottom) 256 (c .lent) in
     record { top = c .top; bottom = c .bottom; lent = c .lent; number = numberOf x; figures = figuresOf x }
 
 -- Naming this on an `unfolding` line opens every definition of the sweeps, so that a closed channel computes

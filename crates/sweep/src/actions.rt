@@ -10,7 +10,7 @@ ghost use Rattle.grid.specs.Channel.{pick};
 ghost use Rattle.sweep.specs.Rules.{pinsTo, straight, full, taken, joinNet, topTakesFree, bottomTakesFree, bothTakeFree, topEnds, bottomEnds, bothEnd};
 
 // The bottom net b up to row q, the top net a down to row p, the strands of e and c ended, then a track for a net, three times.
-pub fn pins_to(
+pub(crate) fn pins_to(
     b: u16,
     q: u16,
     a: u16,
@@ -45,13 +45,13 @@ pub fn pins_to(
     }
 }
 
-pub fn go_straight() -> Action
+pub(crate) fn go_straight() -> Action
     ensures { λ r. ⌜ r ≡ straight ⌝ }
 {
     pins_to(0, 0, 0, 0, 0, 0, 0, 0, 0, 0, 0, 0)
 }
 
-pub fn go_full(t: u16, v: u16, y: u16) -> Action
+pub(crate) fn go_full(t: u16, v: u16, y: u16) -> Action
     requires { ⌜ t ≤ 511 ⌝ }
     ensures { λ r. ⌜ r ≡ full t v y ⌝ }
 {
@@ -59,26 +59,26 @@ pub fn go_full(t: u16, v: u16, y: u16) -> Action
 }
 
 // Track y for net v, and none where v is 0.
-pub fn track_for(v: u16, y: u16) -> u16
+pub(crate) fn track_for(v: u16, y: u16) -> u16
     ensures { λ r. ⌜ r ≡ taken v y ⌝ }
 {
     if v == 0 { 0 } else { y }
 }
 
 // Track y for net v, and none where v is 0 or the net that is joined.
-pub fn track_beside(v: u16, joined: u16, y: u16) -> u16
+pub(crate) fn track_beside(v: u16, joined: u16, y: u16) -> u16
     ensures { λ r. ⌜ r ≡ pick (eqb v joined) 0 (taken v y) ⌝ }
 {
     if v == joined { 0 } else { track_for(v, y) }
 }
 
-pub fn track_later(later: bool, y: u16) -> u16
+pub(crate) fn track_later(later: bool, y: u16) -> u16
     ensures { λ r. ⌜ r ≡ pick later y 0 ⌝ }
 {
     if later { y } else { 0 }
 }
 
-pub fn join_net(n: Joint, a: u16, b: u16) -> Action
+pub(crate) fn join_net(n: Joint, a: u16, b: u16) -> Action
     ensures { λ r. ⌜ r ≡ joinNet n a b ⌝ }
 {
     Action {
@@ -100,25 +100,25 @@ pub fn join_net(n: Joint, a: u16, b: u16) -> Action
     }
 }
 
-pub fn top_takes_free(f: Free, a: u16) -> Action
+pub(crate) fn top_takes_free(f: Free, a: u16) -> Action
     ensures { λ r. ⌜ r ≡ topTakesFree f a ⌝ }
 {
     pins_to(0, 0, a, f.first, 0, 0, f.first, a, 0, 0, 0, 0)
 }
 
-pub fn bottom_takes_free(f: Free, b: u16) -> Action
+pub(crate) fn bottom_takes_free(f: Free, b: u16) -> Action
     ensures { λ r. ⌜ r ≡ bottomTakesFree f b ⌝ }
 {
     pins_to(b, f.first, 0, f.first, 0, 0, f.first, b, 0, 0, 0, 0)
 }
 
-pub fn both_take_free(f: Free, a: u16, b: u16) -> Action
+pub(crate) fn both_take_free(f: Free, a: u16, b: u16) -> Action
     ensures { λ r. ⌜ r ≡ bothTakeFree f a b ⌝ }
 {
     pins_to(b, f.first, a, f.second, 0, 0, f.first, b, f.second, a, 0, 0)
 }
 
-pub fn top_ends(a: Pin, b: Pin) -> Action
+pub(crate) fn top_ends(a: Pin, b: Pin) -> Action
     ensures { λ r. ⌜ r ≡ topEnds a b ⌝ }
 {
     pins_to(
@@ -137,7 +137,7 @@ pub fn top_ends(a: Pin, b: Pin) -> Action
     )
 }
 
-pub fn bottom_ends(a: Pin, b: Pin) -> Action
+pub(crate) fn bottom_ends(a: Pin, b: Pin) -> Action
     ensures { λ r. ⌜ r ≡ bottomEnds a b ⌝ }
 {
     pins_to(
@@ -156,7 +156,7 @@ pub fn bottom_ends(a: Pin, b: Pin) -> Action
     )
 }
 
-pub fn both_end(a: Pin, b: Pin) -> Action
+pub(crate) fn both_end(a: Pin, b: Pin) -> Action
     ensures { λ r. ⌜ r ≡ bothEnd a b ⌝ }
 {
     if b.high < a.low {

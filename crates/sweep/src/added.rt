@@ -62,7 +62,7 @@ fn join_net(
 }
 
 // Adds a column for each net that still has strands, lowest number first; n columns are drawn. The answer is the width.
-pub fn finish(
+pub(crate) fn finish(
     layout: &mut [u16],
     tracks: &mut [u16; 512],
     free: &mut [u64; 8],

@@ -4,57 +4,52 @@ use crate::Free;
 use crate::Joint;
 use crate::Pin;
 use crate::actions;
+use crate::nets;
 ghost use mathlib.Core.Path.{_≡_};
-ghost use Prim.Native.Nat.{_≤_, max};
+ghost use mathlib.Core.List.{List};
+ghost use Prim.Native.Nat.{ℕ, _≤_};
 ghost use lib.Dec.{eqb};
+ghost use lib.ListN.{length};
 ghost use Rattle.grid.specs.Channel.{pick};
-ghost use Rattle.sweep.specs.Rules.{kindOf};
-ghost use Rattle.sweep.specs.declared.Free.{Free};
-ghost use Rattle.sweep.specs.declared.Joint.{Joint};
-ghost use Rattle.sweep.specs.TwoPin.{joinOr, byKinds as byTwo};
-ghost use Rattle.sweep.specs.ManyPin.{chooseMany, topContinues, bottomContinues, bothContinue, bothPins, byKinds as byMany};
+ghost use Rattle.sweep.specs.Rules.{kindOf, topTakesFree, bottomTakesFree, bothTakeFree};
+ghost use Rattle.sweep.specs.Drawing.{freeOf};
+ghost use Rattle.sweep.specs.State.{tracksOf, Frees};
+ghost use Rattle.sweep.specs.TwoPin.{joinOr};
+ghost use Rattle.sweep.specs.ManyPin.{chooseMany, topContinues, bottomContinues, bothContinue, bothPins, byKinds};
 
-// Rule 2 of two-pin channels: the stretched net is joined, and where there is none the action on free tracks is taken.
-pub fn join_or(n: Joint, a: u16, b: u16, other: Action) -> Action
-    ensures { λ r. ⌜ r ≡ joinOr n a b other ⌝ }
+// A starting bottom pin alone in a column of a two-pin channel, rule 2: the stretched net n is joined, and where there is none the pin takes the
+// lowest free track.
+pub(crate) fn bottom_starts(a: Pin, b: Pin, free: &[u64; 8], n: Joint) -> Action
+    ensures { λ r. ⌜ ((t : ℕ) (x : List ℕ) → t ≤ 511 → length x ≡ 512 → Frees t x (now (free .entry)) → r ≡ joinOr n (a .net) (b .net) (bottomTakesFree (freeOf (tracksOf t x)) (b .net))) ⌝ }
 {
     if n.net == 0 {
-        other
-    } else {
-        actions::join_net(n, a, b)
+        return actions::bottom_takes_free(nets::free_tracks(free), b.net);
     }
+    actions::join_net(n, a.net, b.net)
 }
 
-// What a column of a two-pin channel does where its pins are of two nets and both are none or start: rules 1 and 2.
-pub fn starts_two(a: Pin, b: Pin, f: Free, n: Joint) -> Action
-    requires { ⌜ (a .kind ≤ 1) × (b .kind ≤ 1) ⌝ }
-    ensures { λ r. ⌜ r ≡ byTwo a b f n (kindOf (a .kind)) (kindOf (b .kind)) ⌝ }
+// A starting top pin alone.
+pub(crate) fn top_starts(a: Pin, b: Pin, free: &[u64; 8], n: Joint) -> Action
+    ensures { λ r. ⌜ ((t : ℕ) (x : List ℕ) → t ≤ 511 → length x ≡ 512 → Frees t x (now (free .entry)) → r ≡ joinOr n (a .net) (b .net) (topTakesFree (freeOf (tracksOf t x)) (a .net))) ⌝ }
 {
-    match 4 * a.kind + b.kind {
-        1 => join_or(n, a.net, b.net, actions::bottom_takes_free(f, b.net)),
-        4 => join_or(n, a.net, b.net, actions::top_takes_free(f, a.net)),
-        5 => join_or(n, a.net, b.net, actions::both_take_free(f, a.net, b.net)),
-        _ => actions::go_straight(),
+    if n.net == 0 {
+        return actions::top_takes_free(nets::free_tracks(free), a.net);
     }
+    actions::join_net(n, a.net, b.net)
 }
 
-// And where one of them ends its net: rules 3 and 4, whatever tracks are free and whatever net is stretched.
-pub fn ends_two(a: Pin, b: Pin) -> Action
-    requires { ⌜ (a .kind ≤ 3) × (b .kind ≤ 3) × (2 ≤ max (a .kind) (b .kind)) ⌝ }
-    ensures { λ r. ⌜ ((f : Free) (N : Joint) → r ≡ byTwo a b f N (kindOf (a .kind)) (kindOf (b .kind))) ⌝ }
+// Two starting pins of two nets.
+pub(crate) fn both_start(a: Pin, b: Pin, free: &[u64; 8], n: Joint) -> Action
+    ensures { λ r. ⌜ ((t : ℕ) (x : List ℕ) → t ≤ 511 → length x ≡ 512 → Frees t x (now (free .entry)) → r ≡ joinOr n (a .net) (b .net) (bothTakeFree (freeOf (tracksOf t x)) (a .net) (b .net))) ⌝ }
 {
-    match 4 * a.kind + b.kind {
-        3 => actions::bottom_ends(a, b),
-        7 => actions::bottom_ends(a, b),
-        12 => actions::top_ends(a, b),
-        13 => actions::top_ends(a, b),
-        15 => actions::both_end(a, b),
-        _ => actions::go_straight(),
+    if n.net == 0 {
+        return actions::both_take_free(nets::free_tracks(free), a.net, b.net);
     }
+    actions::join_net(n, a.net, b.net)
 }
 
 // A continuing top net opposite a starting one, or opposite a continuing one where neither has two strands.
-pub fn top_continues(a: Pin, b: Pin, f: Free) -> Action
+pub(crate) fn top_continues(a: Pin, b: Pin, f: Free) -> Action
     ensures { λ r. ⌜ r ≡ topContinues a b f ⌝ }
 {
     if f.first < a.high {
@@ -89,7 +84,7 @@ pub fn top_continues(a: Pin, b: Pin, f: Free) -> Action
     )
 }
 
-pub fn bottom_continues(a: Pin, b: Pin, f: Free) -> Action
+pub(crate) fn bottom_continues(a: Pin, b: Pin, f: Free) -> Action
     ensures { λ r. ⌜ r ≡ bottomContinues a b f ⌝ }
 {
     if b.low < f.first {
@@ -125,13 +120,13 @@ pub fn bottom_continues(a: Pin, b: Pin, f: Free) -> Action
 }
 
 // Track y, and none where its net has one strand.
-pub fn track_if_more(many: u16, y: u16) -> u16
+pub(crate) fn track_if_more(many: u16, y: u16) -> u16
     ensures { λ r. ⌜ r ≡ pick (eqb many 1) 0 y ⌝ }
 {
     if many == 1 { 0 } else { y }
 }
 
-pub fn both_continue(a: Pin, b: Pin, f: Free) -> Action
+pub(crate) fn both_continue(a: Pin, b: Pin, f: Free) -> Action
     ensures { λ r. ⌜ r ≡ bothContinue a b f ⌝ }
 {
     if b.low < a.high {
@@ -173,9 +168,9 @@ pub fn both_continue(a: Pin, b: Pin, f: Free) -> Action
 }
 
 // What a column of a many-pin channel does by its pair of kinds, where rules 1 and 2 do not fit.
-pub fn kinds_many(a: Pin, b: Pin, f: Free) -> Action
+pub(crate) fn kinds_many(a: Pin, b: Pin, f: Free) -> Action
     requires { ⌜ (a .kind ≤ 3) × (b .kind ≤ 3) ⌝ }
-    ensures { λ r. ⌜ r ≡ byMany a b f (kindOf (a .kind)) (kindOf (b .kind)) ⌝ }
+    ensures { λ r. ⌜ r ≡ byKinds a b f (kindOf (a .kind)) (kindOf (b .kind)) ⌝ }
 {
     match 4 * a.kind + b.kind {
         1 => actions::bottom_takes_free(f, b.net),
@@ -198,7 +193,7 @@ pub fn kinds_many(a: Pin, b: Pin, f: Free) -> Action
 }
 
 // One net with both pins in the column.
-pub fn both_pins(t: u16, a: Pin, f: Free, n: Joint, later: bool) -> Action
+pub(crate) fn both_pins(t: u16, a: Pin, f: Free, n: Joint, later: bool) -> Action
     requires { ⌜ t ≤ 511 ⌝ }
     ensures { λ r. ⌜ r ≡ bothPins t a f n later ⌝ }
 {
@@ -214,7 +209,7 @@ pub fn both_pins(t: u16, a: Pin, f: Free, n: Joint, later: bool) -> Action
     actions::go_full(t, a.net, 0)
 }
 
-pub fn choose_many(t: u16, a: Pin, b: Pin, f: Free, n: Joint, later: bool) -> Action
+pub(crate) fn choose_many(t: u16, a: Pin, b: Pin, f: Free, n: Joint, later: bool) -> Action
     requires { ⌜ (t ≤ 511) × (a .kind ≤ 3) × (b .kind ≤ 3) ⌝ }
     ensures { λ r. ⌜ r ≡ chooseMany t a b f n later ⌝ }
 {

@@ -1,5 +1,6 @@
 // The columns 1 to n.
 use crate::Action;
+use crate::Joint;
 use crate::Pin;
 use crate::actions;
 use crate::choose;
@@ -17,7 +18,25 @@ ghost use Rattle.sweep.specs.TwoPin.{chooseTwo};
 ghost use Rattle.sweep.specs.Drawing.{freeOf, action, gap, drawn};
 ghost use Rattle.sweep.specs.State.{tracksOf, Frees, Indexes, Holds, Next, Joins, Sorted, Ready, Sound};
 
-// What column c + 1 of a two-pin channel does; only a column of starting pins asks for the free tracks and the net of rule 2.
+// The net that rule 2 of a two-pin channel joins in column c + 1: the lowest of the stretched ones.
+fn joined(
+    tracks: &[u16; 512],
+    last: &[u16; 257],
+    low: &[u16; 257],
+    high: &[u16; 257],
+    stretched: &[u64; 8],
+    t: usize,
+    c: u16,
+) -> Joint
+    requires { ⌜ (t ≤ 511) × (length (now tracks) ≡ 512) × (c < 256) ⌝ }
+    requires { ⌜ Indexes lowest (now low) (tracksOf t (now tracks)) × Indexes highest (now high) (tracksOf t (now tracks)) ⌝ }
+    requires { ⌜ ((v : ℕ) → Next (now stretched) 0 v → v ≤ 256) ⌝ }
+    ensures { λ r. ⌜ ((N : Joint) → Joins (now (last .entry)) (now (low .entry)) (now (high .entry)) (now (stretched .entry)) (tracksOf t (now (tracks .entry))) c N → r ≡ N) ⌝ }
+{
+    nets::joint_at(tracks, last, low, high, t, c, nets::lowest_net(stretched))
+}
+
+// What column c + 1 of a two-pin channel does; only starting pins ask for the free tracks and the net of rule 2.
 fn pair_column(
     a: Pin,
     b: Pin,
@@ -38,13 +57,19 @@ fn pair_column(
     if (a.net != 0) & (a.net == b.net) {
         return actions::go_full(t as u16, a.net, 0);
     }
-    if (a.kind < 2) & (b.kind < 2) {
-        let f = nets::free_tracks(free);
-        let v = nets::lowest_net(stretched);
-        let n = nets::joint_at(tracks, last, low, high, t, c, v);
-        return choose::starts_two(a, b, f, n);
+    match 4 * a.kind + b.kind {
+        0 => actions::go_straight(),
+        1 => choose::bottom_starts(a, b, free, joined(tracks, last, low, high, stretched, t, c)),
+        3 => actions::bottom_ends(a, b),
+        4 => choose::top_starts(a, b, free, joined(tracks, last, low, high, stretched, t, c)),
+        5 => choose::both_start(a, b, free, joined(tracks, last, low, high, stretched, t, c)),
+        7 => actions::bottom_ends(a, b),
+        12 => actions::top_ends(a, b),
+        13 => actions::top_ends(a, b),
+        15 => actions::both_end(a, b),
+        // No pin of a two-pin net continues.
+        _ => actions::go_straight(),
     }
-    choose::ends_two(a, b)
 }
 
 // What column c + 1 does; pairs says whether each net has two pins.
@@ -84,7 +109,7 @@ fn column_at(
 }
 
 // Draws the columns 1 to n.
-pub fn sweep_columns(
+pub(crate) fn sweep_columns(
     top: &[u16],
     bottom: &[u16],
     layout: &mut [u16],

@@ -8,7 +8,7 @@ ghost use Rattle.sweep.specs.Applies.{Open, Applies};
 ghost use Rattle.sweep.specs.State.{tracksOf, swept, Swept, NoneBetween, Frees, Holds, blank};
 
 // The set of t free tracks.
-pub fn all_free(t: usize) -> [u64; 8]
+pub(crate) fn all_free(t: usize) -> [u64; 8]
     requires { ⌜ t ≤ 511 ⌝ }
     ensures { λ r. ⌜ Frees t blank r ⌝ }
 {
@@ -71,7 +71,7 @@ fn end_strands(
 }
 
 // Ends all strands of a net.
-pub fn drop_net(
+pub(crate) fn drop_net(
     tracks: &mut [u16; 512],
     free: &mut [u64; 8],
     low: &mut [u16; 257],
@@ -110,7 +110,7 @@ fn lesser_of(x: u16, y: u16) -> u16
 }
 
 // The higher of two tracks.
-pub fn greater_of(x: u16, y: u16) -> u16
+pub(crate) fn greater_of(x: u16, y: u16) -> u16
     ensures { λ r. ⌜ r ≡ max x y ⌝ }
 {
     if x < y { y } else { x }
@@ -146,7 +146,7 @@ fn add_strand(
 }
 
 // The tracks after an action.
-pub fn apply(
+pub(crate) fn apply(
     tracks: &mut [u16; 512],
     free: &mut [u64; 8],
     low: &mut [u16; 257],

@@ -13,12 +13,13 @@ ghost use mathlib.Core.Path.{_≡_};
 ghost use Prim.Native.Nat.{_+_, _*_, _/_, _-_, _≤_};
 ghost use lib.ListN.{length, drop};
 ghost use mathlib.Core.List.{_++_};
-ghost use Rattle.grid.specs.Channel.{pick};
+ghost use Rattle.grid.specs.Channel.{pick, rowsRefused};
+ghost use Rattle.grid.specs.Refusals.{ifAccepted};
 ghost use Rattle.sweep.specs.Promise.{Solves};
 ghost use Rattle.sweep.specs.Drawing.{width};
 ghost use Rattle.sweep.specs.Drawing.{layout as layoutOf};
-ghost use Rattle.sweep.specs.Answers.{answer, written, numberOf, figuresOf};
-ghost use Rattle.sweep.specs.Answers.{need as needOf};
+ghost use Rattle.sweep.specs.Answers.{numberOf, figuresOf, noFigures, lengthNumberOf, entriesOf};
+ghost use Rattle.sweep.specs.Answers.{sliceLength, need as needOf, refused, figures as figuresBy, answer, written};
 ghost use Rattle.sweep.specs.State.{Ready, Sound, blank, noNets};
 
 // A terminal of the column: its net (0: none), its kind (0 none, 1 starts, 2 continues, 3 ends) and its net's strands in the gap left of the
@@ -175,7 +176,9 @@ fn entries(n: usize, t: usize) -> usize
 
 // The slice length that a routing call wants for a channel.
 pub fn need(top: &[u16], bottom: &[u16]) -> Length
-    ensures { λ r. ⌜ r ≡ needOf (now (top .entry)) (now (bottom .entry)) ⌝ }
+    ensures answer { λ r. ⌜ r ≡ needOf (now (top .entry)) (now (bottom .entry)) ⌝ }
+    ensures number { λ r. ⌜ lengthNumberOf r ≡ rowsRefused (now (top .entry)) (now (bottom .entry)) 256 ⌝ }
+    ensures entries { λ r. ⌜ entriesOf r ≡ ifAccepted (lengthNumberOf r) (sliceLength (now (top .entry)) (now (bottom .entry))) 0 ⌝ }
 {
     let r = grid::check_rows(top, bottom, 256);
     let RowCheck::Fit(s) = r else {
@@ -184,16 +187,19 @@ pub fn need(top: &[u16], bottom: &[u16]) -> Length
     Length::Entries(entries(s.columns, tracks_of(s.density, s.pairs)))
 }
 
-// Routes a channel: its drawing goes to the front of the layout, and what stands behind it stays. A refused call leaves the layout as it is.
-pub fn route(top: &[u16], bottom: &[u16], layout: &mut [u16]) -> Routed
-    ensures answer { λ r. ⌜ r ≡ answer (now (top .entry)) (now (bottom .entry)) (length (now (layout .entry))) ⌝ }
-    ensures drawing { λ r. ⌜ now (layout .exit) ≡ written (now (top .entry)) (now (bottom .entry)) (now (layout .entry)) ⌝ }
+// Routes a channel: its drawing goes to the front of the layout, and what stands behind it stays. A refused call leaves the layout as it is. `most` is
+// the largest number of columns; over 256 it stands for 256.
+pub fn route_within(top: &[u16], bottom: &[u16], most: usize, layout: &mut [u16]) -> Routed
+    ensures answer { λ r. ⌜ r ≡ answer (now (top .entry)) (now (bottom .entry)) most (length (now (layout .entry))) ⌝ }
+    ensures drawing { λ r. ⌜ now (layout .exit) ≡ written (now (top .entry)) (now (bottom .entry)) most (now (layout .entry)) ⌝ }
     ensures solution { λ r. ⌜ (numberOf r ≡ 0 → Solves (now (top .entry)) (now (bottom .entry)) (now (layout .exit)) (figuresOf r)) ⌝ }
+    ensures number { λ r. ⌜ numberOf r ≡ refused (now (top .entry)) (now (bottom .entry)) most (length (now (layout .entry))) ⌝ }
+    ensures figures { λ r. ⌜ figuresOf r ≡ ifAccepted (numberOf r) (figuresBy (now (top .entry)) (now (bottom .entry))) noFigures ⌝ }
 {
     let mut first = no_nets();
     let mut last = no_nets();
     let mut pins = no_nets();
-    let r = grid::net_facts(top, bottom, 256, &mut first, &mut last, &mut pins);
+    let r = grid::net_facts(top, bottom, most, &mut first, &mut last, &mut pins);
     let RowCheck::Fit(s) = r else {
         return Routed::Refused(grid::number_of(r));
     };
@@ -207,4 +213,15 @@ pub fn route(top: &[u16], bottom: &[u16], layout: &mut [u16]) -> Routed
         tracks: t,
         width: w,
     })
+}
+
+// Routes a channel of up to 256 columns.
+pub fn route(top: &[u16], bottom: &[u16], layout: &mut [u16]) -> Routed
+    ensures answer { λ r. ⌜ r ≡ answer (now (top .entry)) (now (bottom .entry)) 256 (length (now (layout .entry))) ⌝ }
+    ensures drawing { λ r. ⌜ now (layout .exit) ≡ written (now (top .entry)) (now (bottom .entry)) 256 (now (layout .entry)) ⌝ }
+    ensures solution { λ r. ⌜ (numberOf r ≡ 0 → Solves (now (top .entry)) (now (bottom .entry)) (now (layout .exit)) (figuresOf r)) ⌝ }
+    ensures number { λ r. ⌜ numberOf r ≡ refused (now (top .entry)) (now (bottom .entry)) 256 (length (now (layout .entry))) ⌝ }
+    ensures figures { λ r. ⌜ figuresOf r ≡ ifAccepted (numberOf r) (figuresBy (now (top .entry)) (now (bottom .entry))) noFigures ⌝ }
+{
+    route_within(top, bottom, 256, layout)
 }

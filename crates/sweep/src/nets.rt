@@ -13,7 +13,7 @@ ghost use Rattle.sweep.specs.Drawing.{freeOf};
 ghost use Rattle.sweep.specs.State.{tracksOf, Frees, Indexes, Next, Crowded, Right, jointBy};
 
 // The two lowest free tracks.
-pub fn free_tracks(free: &[u64; 8]) -> Free
+pub(crate) fn free_tracks(free: &[u64; 8]) -> Free
     ensures { λ r. ⌜ ((t : ℕ) (a : List ℕ) → t ≤ 511 → length a ≡ 512 → Frees t a (now (free .entry)) → r ≡ freeOf (tracksOf t a)) ⌝ }
 {
     let f = sets::lowest(free) % 512;
@@ -25,14 +25,14 @@ pub fn free_tracks(free: &[u64; 8]) -> Free
 }
 
 // The lowest net of a set, 0 where there is none.
-pub fn lowest_net(s: &[u64; 8]) -> u16
+pub(crate) fn lowest_net(s: &[u64; 8]) -> u16
     ensures { λ r. ⌜ Next (now (s .entry)) 0 r ⌝ }
 {
     (sets::lowest(s) % 512) as u16
 }
 
 // The lowest net of a set above net v, 0 where there is none.
-pub fn next_net(s: &[u64; 8], v: u16) -> u16
+pub(crate) fn next_net(s: &[u64; 8], v: u16) -> u16
     requires { ⌜ v ≤ 256 ⌝ }
     ensures { λ r. ⌜ Next (now (s .entry)) (v + 1) r ⌝ }
 {
@@ -40,7 +40,7 @@ pub fn next_net(s: &[u64; 8], v: u16) -> u16
 }
 
 // The net that rule 2 of a many-pin channel joins.
-pub fn crowded_net(stretched: &[u64; 8], wide: &[u64; 8]) -> u16
+pub(crate) fn crowded_net(stretched: &[u64; 8], wide: &[u64; 8]) -> u16
     ensures { λ r. ⌜ Crowded (now (stretched .entry)) (now (wide .entry)) r ⌝ }
 {
     let v = lowest_net(stretched);
@@ -69,7 +69,7 @@ fn second_of(tracks: &[u16; 512], a: u16, b: u16, t: usize, v: u16) -> u16
 }
 
 // The net v (0: none) as the net that rule 2 joins in column c + 1; its second lowest strand only where it has pins after that column.
-pub fn joint_at(
+pub(crate) fn joint_at(
     tracks: &[u16; 512],
     last: &[u16; 257],
     low: &[u16; 257],
@@ -159,7 +159,7 @@ fn sort_net(
 }
 
 // Makes them right of three nets.
-pub fn sort_three(
+pub(crate) fn sort_three(
     last: &[u16; 257],
     many: &[u16; 257],
     stretched: &mut [u64; 8],

@@ -23,7 +23,7 @@ fn kind_at(first: u16, last: u16, c: u16) -> u16
 }
 
 // The pin of net v in column c + 1.
-pub fn pin_at(
+pub(crate) fn pin_at(
     first: &[u16; 257],
     last: &[u16; 257],
     low: &[u16; 257],
@@ -56,7 +56,7 @@ pub fn pin_at(
 }
 
 // Whether net v has pins after column c + 1.
-pub fn later_than(last: &[u16; 257], c: u16, v: u16) -> bool
+pub(crate) fn later_than(last: &[u16; 257], c: u16, v: u16) -> bool
     requires { ⌜ (c < 256) × (v ≤ 256) ⌝ }
     ensures { λ r. ⌜ r ≡ ltb (c + 1) (getD (now (last .entry)) v 0) ⌝ }
 {

@@ -80,7 +80,7 @@ fn copy_tracks(part: &mut [u16], tracks: &[u16; 512], t: usize)
 }
 
 // Writes a column: its vertical edges, and the tracks that leave it.
-pub fn write_column(part: &mut [u16], tracks: &[u16; 512], t: usize, x: Action)
+pub(crate) fn write_column(part: &mut [u16], tracks: &[u16; 512], t: usize, x: Action)
     requires { ⌜ (t ≤ 511) × (length (now part) ≡ 2 * t + 1) × (length (now tracks) ≡ 512) × Flat x ⌝ }
     ensures { λ _. ⌜ now (part .exit) ≡ verticals t x ++ tracksOf t (now (tracks .entry)) ⌝ }
 {

@@ -37,12 +37,11 @@ fn listing(record: &[u8], text: &mut &mut [u8]) -> Result<(), u16> {
     Ok(())
 }
 
-/// Writes the listing of a record and returns its length.
-pub fn list(record: &[u8], text: &mut [u8]) -> usize {
+/// Writes the listing of a record and returns its length; with refusal 1 to 7
+/// nothing is written.
+pub fn list(record: &[u8], text: &mut [u8]) -> Result<usize, u16> {
     let room = text.len();
     let mut rest = text;
-    if let Err(number) = listing(record, &mut rest) {
-        writeln!(rest, "refused {number}").unwrap();
-    }
-    room - rest.len()
+    listing(record, &mut rest)?;
+    Ok(room - rest.len())
 }

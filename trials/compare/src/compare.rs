@@ -3,7 +3,7 @@
 use crate::damage::{self, Drawing};
 use crate::library;
 use crate::random::{self, Channel, Rng};
-use gaxwethi::raw::{Checked, Density, Need, Routed, TEXT};
+use gaxwethi::raw::{Checked, Density, Listed, Need, Part, Routed, TEXT};
 use std::fmt::Debug;
 
 /// What was compared, and where the two differ.
@@ -154,12 +154,10 @@ impl Tally {
             }
             let [len, w, t, at] = measures;
             let ours = second::column(len, w, t, at).unwrap_or(0..0);
+            let ours = Part { offset: ours.start, length: ours.len() };
             let library = library::column(len, w, t, at);
             let call = format!("column {at} of {len} entries, w {w} t {t}");
-            self.same(&call, c, 0, ours.len(), library.length);
-            if !ours.is_empty() {
-                self.same(&call, c, 0, ours.start, library.offset);
-            }
+            self.same(&call, c, 0, ours, library);
         }
     }
 
@@ -186,15 +184,19 @@ impl Tally {
         }
     }
 
+    /// The listing's answer, its text, and that the bytes after it are kept: on
+    /// refusal, where the listing is empty, the whole text.
     fn listing(&mut self, c: &Channel, record: &[u8]) {
-        let ours = second::list(record);
-        let length = library::list(record, &mut self.text).min(TEXT);
-        let number = ours.strip_prefix("refused ").map_or(0, |n| n.trim().parse().unwrap());
+        let (number, ours) = split(second::list(record));
+        let length = ours.len();
+        let library = library::list(record, &mut self.text);
         let theirs = String::from_utf8_lossy(&self.text[..length]).into_owned();
-        let spilt = self.text[length..].iter().any(|&byte| byte != MARK);
+        let spilt = self.text[length..].iter().position(|&byte| byte != MARK);
         self.text.fill(MARK);
-        self.same("list", c, number, ours, theirs);
-        self.same("list, bytes after the text written", c, number, false, spilt);
+        self.same("list", c, number, Listed { number, length }, library);
+        self.same("list, text", c, number, ours, theirs);
+        let place = spilt.map(|place| length + place);
+        self.same("list, first byte written after the text", c, number, None, place);
     }
 }
 

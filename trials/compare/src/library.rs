@@ -30,6 +30,6 @@ pub fn column(len: usize, w: usize, t: usize, c: usize) -> Part {
     unsafe { gaxwethi_column(len, w, t, c) }
 }
 
-pub fn list(record: &[u8], text: &mut [u8; TEXT]) -> usize {
+pub fn list(record: &[u8], text: &mut [u8; TEXT]) -> Listed {
     unsafe { gaxwethi_list(record.as_ptr(), record.len(), text.as_mut_ptr()) }
 }

@@ -11,7 +11,7 @@ pub mod rows;
 pub mod sweep;
 
 pub use check::{check, column};
-pub use record::list;
+pub use record::{list, printed};
 pub use rows::{density, need, report};
 pub use sweep::route;
 

@@ -26,16 +26,15 @@ pub fn rows(record: &[u8]) -> Result<(Vec<u16>, Vec<u16>), u16> {
     Ok((row(6), row(6 + 2 * n)))
 }
 
-/// The listing of a record: the figures and a line for each column, or the
-/// line that says it is refused.
-pub fn list(record: &[u8]) -> String {
-    match listing(record) {
-        Ok(text) => text,
-        Err(number) => format!("refused {number}\n"),
-    }
+/// What `knee` writes for a record: its listing, or the line that says it is
+/// refused.
+pub fn printed(record: &[u8]) -> String {
+    list(record).unwrap_or_else(|number| format!("refused {number}\n"))
 }
 
-fn listing(record: &[u8]) -> Result<String, u16> {
+/// The listing of a record: the figures and a line for each column; or refusal
+/// 1 to 7.
+pub fn list(record: &[u8]) -> Result<String, u16> {
     let (top, bottom) = rows(record)?;
     let nets = nets(&top, &bottom, MOST_LISTED)?;
     let (figures, entries) = draw(&top, &bottom, &nets);

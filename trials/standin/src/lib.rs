@@ -21,6 +21,12 @@ pub struct Routed {
 }
 
 #[repr(C)]
+pub struct Listed {
+    number: u16,
+    length: usize,
+}
+
+#[repr(C)]
 pub struct Part {
     offset: usize,
     length: usize,
@@ -123,7 +129,10 @@ pub extern "C" fn gaxwethi_column(len: usize, w: usize, t: usize, c: usize) -> P
 
 /// # Safety
 #[no_mangle]
-pub unsafe extern "C" fn gaxwethi_list(record: *const u8, len: usize, text: *mut u8) -> usize {
+pub unsafe extern "C" fn gaxwethi_list(record: *const u8, len: usize, text: *mut u8) -> Listed {
     let (record, text) = (from_raw_parts(record, len), from_raw_parts_mut(text, TEXT));
-    guarded(|| Ok(baseline::list(record, text))).unwrap_or(0)
+    match guarded(|| baseline::list(record, text)) {
+        Ok(length) => Listed { number: 0, length },
+        Err(number) => Listed { number, length: 0 },
+    }
 }

@@ -1,5 +1,5 @@
 -- `checker::check` meets its contract: the rows' number, or the answer on the drawing with the table of their pins.
-use Rattle.checker.proofs.Answers.{rows-refused, known, rows-accepted}
+use Rattle.checker.proofs.Answers.{check-promise, rows-refused, known, rows-accepted}
 use borrow.Author.Needs.{needs}
 use Rattle.checker.proofs.check.Statement.{statement}
 use Rattle.checker.proofs.check.Tie as tie
@@ -32,21 +32,23 @@ returns : tie.Need-returns
 returns c =
     let a = c .before .before .before .before .before .before .before .before .before .before .before .before .before .before .args in
     let r = c .before .before .before .before .net-facts in
-    rows-refused (a .top .now) (a .bottom .now) (a .w) (a .t) (a .layout .now) _ (r .result) _ _ (r .ensures .0) (c .before .before .enum-told2 .given .1)
-    (c .before .number-of .ensures) (c .refuse .ensures)
+    check-promise (a .top .now) (a .bottom .now) (a .w) (a .t) (a .layout .now) _
+    (rows-refused (a .top .now) (a .bottom .now) (a .w) (a .t) (a .layout .now) _ (r .result) _ _ (r .ensures .0)
+    (c .before .before .enum-told2 .given .1) (c .before .number-of .ensures) (c .refuse .ensures))
 
 check-drawing-requires : tie.Need-check-drawing-requires
 check-drawing-requires c κs =
     let a = c .before .before .before .before .before .before .before .before .before .before .before .before .before .args in
     let r = c .before .before .before .net-facts in
-    known (a .top .now) (a .bottom .now) (r .result) _ (r .ensures .0) (c .before .enum-told .given .1) _ _ (r .ensures .1 .1 .1)
+    known (a .top .now) (a .bottom .now) (r .result) _ (r .ensures .0) (c .before .enum-told .given .1) _ _ (r .ensures .1 .1 .1 .0)
 
 returns-2 : tie.Need-returns-2
 returns-2 c =
     let a = c .before .before .before .before .before .before .before .before .before .before .before .before .before .before .args in
     let r = c .before .before .before .before .net-facts in
-    rows-accepted (a .top .now) (a .bottom .now) (r .result) _ (r .ensures .0) (c .before .before .enum-told .given .1) (a .w) (a .t) (a .layout .now) _
-    (c .check-drawing .ensures)
+    check-promise (a .top .now) (a .bottom .now) (a .w) (a .t) (a .layout .now) _
+    (rows-accepted (a .top .now) (a .bottom .now) (r .result) _ (r .ensures .0) (c .before .before .enum-told .given .1) (a .w) (a .t)
+    (a .layout .now) _ (c .check-drawing .ensures))
 
 pub check-spec : {M : Type 1} → statement M
 check-spec =

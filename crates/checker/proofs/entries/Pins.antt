@@ -1,7 +1,7 @@
 -- Entries that are a column's first or last vertical one and not its pin.
 use Prim.Native.Nat.{ℕ, _+_, _*_, _-_, _≤_, _<_}
 use mathlib.Core.Path.{_≡_, refl, sym, _∙_, ap}
-use mathlib.Core.Logic.{_≢_, by-cases}
+use mathlib.Core.Logic.{_≢_, _⊎_, inl, inr, by-cases}
 use mathlib.Core.Bool.{Bool, true, false, not, _&&_, _||_}
 use mathlib.Core.List.{List}
 use lib.ListN.{getD}
@@ -10,7 +10,7 @@ use native.Mathlib.Omega.{arith}
 use native.Mathlib.Decide.{ℕ-discrete, decLt}
 use native.Mathlib.Nat.{mul-le-mul-right}
 use Rattle.grid.specs.Channel.{bit}
-use Rattle.grid.proofs.Tests.{eq-eqb, ne-eqb, eqb-true, or-false}
+use Rattle.grid.proofs.Tests.{eq-eqb, ne-eqb, eqb-true, eqb-false, not-true, and-true, or-false}
 use Rattle.checker.specs.Check.{pinWrong, mispinned}
 use Rattle.checker.specs.Pieces.Edges.{column-of, entry-of}
 use Rattle.checker.proofs.Lowest.{NoneBelow}
@@ -96,3 +96,23 @@ column-inside w t x b n l e m = omega (arith, mul-le-mul-right (2 * t + 1) l)
 -- after the last column the drawing is passed
 pub columns-all : (w t x b n : ℕ) → w ≤ x → b ≡ x * (2 * t + 1) → n ≡ w * (2 * t + 1) → n ≤ b
 columns-all w t x b n l e m = omega (arith, mul-le-mul-right (2 * t + 1) l)
+
+-- the column of a position in the drawing
+pub column-below : (w t x i : ℕ) → x * (2 * t + 1) + i < w * (2 * t + 1) → x < w
+column-below w t x i l =
+    by-cases (decLt x w) (λ z. z) (λ z. let k : w ≤ x = omega arith in absurd (omega (arith, mul-le-mul-right (2 * t + 1) k)))
+
+-- an entry that is not a pin that it has to equal
+pub wrong-pin : (t a b e i : ℕ) → pinWrong t a b e i ≡ true → ((i ≡ 0) × (e ≢ b)) ⊎ ((i ≡ t) × (e ≢ a))
+wrong-pin t a b e i h = go (eqb i 0 && not (eqb e b)) refl h
+  where
+    both : (i k e b : ℕ) → eqb i k && not (eqb e b) ≡ true → (i ≡ k) × (e ≢ b)
+    both i k e b h =
+        let (m, n) = and-true (eqb i k) (not (eqb e b)) h in
+        (eqb-true i k m, eqb-false e b (not-true (eqb e b) n))
+
+    go :
+        (z : Bool) → eqb i 0 && not (eqb e b) ≡ z → z || (eqb i t && not (eqb e a)) ≡ true
+        → ((i ≡ 0) × (e ≢ b)) ⊎ ((i ≡ t) × (e ≢ a))
+    go true o m = inl (both i 0 e b o)
+    go false o m = inr (both i t e a m)

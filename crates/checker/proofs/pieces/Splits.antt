@@ -38,7 +38,7 @@ module _ (t : ℕ) (D : List ℕ) where
       go (no o) = absurd (o (h (omega arith)))
 
   -- one that is not is
-  is-split : (N : ℕ) → N ≢ 0 → (OnePiece (verticalOf D t) (horizontalOf D t) N → ⊥) → split t D N ≡ true
+  pub is-split : (N : ℕ) → N ≢ 0 → (OnePiece (verticalOf D t) (horizontalOf D t) N → ⊥) → split t D N ≡ true
   unfolding split
   is-split zero n h = absurd (n refl)
   is-split (suc N) n h = go (whole? D t (suc N) (omega arith))

@@ -27,7 +27,7 @@ place-of-requires : tie.Need-place-of-requires
 place-of-requires c κs = search needs
 
 returns : tie.Need-returns
-returns c = made _ _ _ _ (c .before .before .check .ensures) (c .before .number-of .ensures) (c .place-of .ensures)
+returns c = made _ _ _ _ (c .before .before .check .ensures .0) (c .before .number-of .ensures) (c .place-of .ensures)
 
 pub gaxwethi-check-spec : {M : Type 1} → statement M
 gaxwethi-check-spec =

@@ -15,10 +15,10 @@ enum-known-a-2 : tie.Need-enum-known-a-2
 enum-known-a-2 c = search needs
 
 returns : tie.Need-returns
-returns c = ap needOf (sym (c .before .a .given .1) ∙ c .before .before .before .need .ensures)
+returns c = ap needOf (sym (c .before .a .given .1) ∙ c .before .before .before .need .ensures .0)
 
 returns-2 : tie.Need-returns-2
-returns-2 c = ap needOf (sym (c .before .a2 .given .1) ∙ c .before .before .before .need .ensures)
+returns-2 c = ap needOf (sym (c .before .a2 .given .1) ∙ c .before .before .before .need .ensures .0)
 
 pub gaxwethi-need-spec : {M : Type 1} → statement M
 gaxwethi-need-spec =

@@ -7,50 +7,29 @@ use borrow.Author.Needs.{needs}
 use Rattle.export.proofs.put_net.Statement.{statement}
 use Rattle.export.proofs.put_net.Tie as tie
 
-add-net : tie.Need-add-net
-add-net c = search needs
-
 mul-at : tie.Need-mul-at
 mul-at c = search needs
 
 mul-figures : tie.Need-mul-figures
 mul-figures c = search needs
 
-element-copy-out-figures : tie.Need-element-copy-out-figures
-element-copy-out-figures c = search needs
-
-mul-figures-2 : tie.Need-mul-figures-2
-mul-figures-2 c = search needs
-
 slice-write-figures : tie.Need-slice-write-figures
 slice-write-figures c = search needs
-
-mul-figures-3 : tie.Need-mul-figures-3
-mul-figures-3 c = search needs
-
-element-copy-out-figures-2 : tie.Need-element-copy-out-figures-2
-element-copy-out-figures-2 c = search needs
 
 add-figures : tie.Need-add-figures
 add-figures c = search needs
 
-mul-figures-4 : tie.Need-mul-figures-4
-mul-figures-4 c = search needs
+mul-figures-2 : tie.Need-mul-figures-2
+mul-figures-2 c = search needs
 
 slice-write-figures-2 : tie.Need-slice-write-figures-2
 slice-write-figures-2 c = simp length-set (omega arith)
 
-mul-figures-5 : tie.Need-mul-figures-5
-mul-figures-5 c = search needs
-
-element-copy-out-figures-3 : tie.Need-element-copy-out-figures-3
-element-copy-out-figures-3 c = search needs
-
 add-figures-2 : tie.Need-add-figures-2
 add-figures-2 c = search needs
 
-mul-figures-6 : tie.Need-mul-figures-6
-mul-figures-6 c = search needs
+mul-figures-3 : tie.Need-mul-figures-3
+mul-figures-3 c = search needs
 
 slice-write-figures-3 : tie.Need-slice-write-figures-3
 slice-write-figures-3 c = simp length-set (omega arith)
@@ -66,21 +45,14 @@ pub put-net-spec : {M : Type 1} → statement M
 put-net-spec =
     tie.close
     (tie.spec
-    add-net
     mul-at
     mul-figures
-    element-copy-out-figures
-    mul-figures-2
     slice-write-figures
-    mul-figures-3
-    element-copy-out-figures-2
     add-figures
-    mul-figures-4
+    mul-figures-2
     slice-write-figures-2
-    mul-figures-5
-    element-copy-out-figures-3
     add-figures-2
-    mul-figures-6
+    mul-figures-3
     slice-write-figures-3
     same-length
     returns)

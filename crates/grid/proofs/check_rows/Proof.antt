@@ -1,4 +1,5 @@
 -- `grid::check_rows` meets its contract: of what `checked` ensures. Assumes nothing.
+use Rattle.grid.proofs.Answers.{check-promise}
 use borrow.Author.Needs.{needs}
 use Rattle.grid.proofs.check_rows.Statement.{statement}
 use Rattle.grid.proofs.check_rows.Tie as tie
@@ -25,7 +26,10 @@ checked-requires : tie.Need-checked-requires
 checked-requires c κs = search needs
 
 returns : tie.Need-returns
-returns c = c .before .before .before .checked .ensures .0
+returns c =
+    let a = c .before .before .before .before .before .before .before .before .before .before .before .before .args in
+    let e = c .before .before .before .checked .ensures .0 in
+    (e, check-promise (a .top .now) (a .bottom .now) (a .most) _ e)
 
 pub check-rows-spec : {M : Type 1} → statement M
 check-rows-spec = tie.close (tie.spec zeros-requires zeros-requires-2 zeros-requires-3 slice-aggregate-checked slice-aggregate-checked-2 slice-aggregate-checked-3 checked-requires returns)

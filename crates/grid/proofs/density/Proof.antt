@@ -4,7 +4,7 @@ use mathlib.Core.Path.{sym, ap, _∙_}
 use Rattle.grid.specs.declared.DensityCount.the-variants.{Is, Refused}
 use Rattle.grid.specs.Channel.{rowsRefused, density}
 use Rattle.grid.specs.Answers.{numberOf, countOf, densityCount}
-use Rattle.grid.proofs.Answers.{told, refused, check-number, count-refused}
+use Rattle.grid.proofs.Answers.{told, refused, check-number, count-refused, density-promise}
 use borrow.Author.Needs.{needs}
 use Rattle.grid.proofs.density.Statement.{statement}
 use Rattle.grid.proofs.density.Tie as tie
@@ -27,8 +27,9 @@ returns c =
     let top = c .before .before .before .before .before .before .args .top .now in
     let bottom = c .before .before .before .before .before .before .args .bottom .now in
     let r = c .before .before .before .check-rows in
-    let n = refused top bottom 256 (r .result) _ (r .ensures) (c .before .enum-told .given .1) in
-    ap Refused (c .number-of .ensures ∙ ap numberOf (r .ensures) ∙ check-number top bottom 256) ∙ count-refused (rowsRefused top bottom 256) (density top bottom) n
+    let n = refused top bottom 256 (r .result) _ (r .ensures .0) (c .before .enum-told .given .1) in
+    let e = ap Refused (c .number-of .ensures ∙ ap numberOf (r .ensures .0) ∙ check-number top bottom 256) ∙ count-refused (rowsRefused top bottom 256) (density top bottom) n in
+    (e, density-promise top bottom _ e)
 
 returns-2 : tie.Need-returns-2
 unfolding densityCount
@@ -36,8 +37,9 @@ returns-2 c =
     let top = c .before .before .before .before .before .before .args .top .now in
     let bottom = c .before .before .before .before .before .before .args .bottom .now in
     let r = c .before .before .before .check-rows in
-    let t = told top bottom 256 (r .result) _ (r .ensures) (c .before .r .given .1) in
-    ap Is (t .figure) ∙ ap (λ (k : ℕ). countOf k (density top bottom)) (sym (t .number))
+    let t = told top bottom 256 (r .result) _ (r .ensures .0) (c .before .r .given .1) in
+    let e = ap Is (t .figure) ∙ ap (λ (k : ℕ). countOf k (density top bottom)) (sym (t .number)) in
+    (e, density-promise top bottom _ e)
 
 pub density-spec : {M : Type 1} → statement M
 density-spec = tie.close (tie.spec check-rows-requires enum-known-r enum-told number-of-requires returns returns-2)

@@ -1,7 +1,7 @@
 use native.Mathlib.Omega.{arith}
 use Prim.Native.Nat.{_≤_, _-_}
 use lib.ListN.{length, take}
-use Rattle.listing.specs.Put.{Put}
+use Rattle.listing.specs.Working.{Put}
 use Rattle.listing.proofs.Put.{put-none}
 use Rattle.listing.proofs.Lines.{bytes-more, bytes-room, bytes-all}
 use Rattle.listing.proofs.put_bytes.Statement.{statement}

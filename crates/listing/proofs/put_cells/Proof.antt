@@ -1,7 +1,7 @@
 use native.Mathlib.Omega.{arith}
 use Prim.Native.Nat.{_+_, _≤_, _-_}
 use Rattle.listing.specs.Text.{cells}
-use Rattle.listing.specs.Put.{Put}
+use Rattle.listing.specs.Working.{Put}
 use Rattle.listing.proofs.Put.{put-none, put-all, first, next, room-one}
 use Rattle.listing.proofs.Lines.{cells-more, cell-room}
 use Rattle.listing.proofs.put_cells.Statement.{statement}

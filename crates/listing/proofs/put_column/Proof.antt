@@ -2,7 +2,7 @@ use borrow.Author.Needs.{needs}
 use native.Mathlib.Omega.{arith}
 use mathlib.Core.List.{[], _∷_}
 use Rattle.listing.specs.Text.{columnAt}
-use Rattle.listing.specs.Put.{Room}
+use Rattle.listing.specs.Working.{Room}
 use Rattle.listing.proofs.Put.{put-then, first, next}
 use Rattle.listing.proofs.put_column.Statement.{statement}
 use Rattle.listing.proofs.put_column.Tie as tie

@@ -3,7 +3,7 @@ use native.Mathlib.Omega.{arith}
 use Prim.Native.Nat.{_+_, _*_, _≤_, _-_, _<_}
 use mathlib.Core.Path.{_≡_}
 use Rattle.listing.specs.Text.{lines}
-use Rattle.listing.specs.Put.{Put}
+use Rattle.listing.specs.Working.{Put}
 use Rattle.listing.proofs.Put.{put-none, put-all}
 use Rattle.listing.proofs.Lines.{lines-more, line-room, next-place, column-inside}
 use Rattle.listing.proofs.put_lines.Statement.{statement}

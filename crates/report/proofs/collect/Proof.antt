@@ -1,7 +1,7 @@
 -- `report::collect` meets its contract: the row check's number, then that of the table, else the records from the tables of each net's figures.
 -- Assumes nothing.
 use mathlib.Core.Path.{_∙_}
-use Rattle.grid.specs.Answers.{refusedWithin}
+use Rattle.grid.specs.Answers.{numberOf, refusedWithin}
 use Rattle.grid.proofs.Answers.{told}
 use Rattle.report.proofs.Records.{gathered}
 use Rattle.report.proofs.Answers.{of-rows, by-table, by-none}
@@ -65,8 +65,8 @@ returns-3 c =
     let e = f .net-facts .ensures in
     let o = f .before .before .before .before in (
       by-none (a .top .now) (a .bottom .now) (a .size) (t .number) (omega (arith, c .before .before .before .before .if1 .left)),
-      λ z. c .gather .ensures ∙ gathered (a .top .now) (a .bottom .now) (refusedWithin (a .top .now) (a .bottom .now) 256) (t .number) (l .0) (l .1 .0) (l .1 .1 .0)
-          (o .before .before .zeros .result) (o .before .zeros2 .result) (o .zeros3 .result) (e .1 .0) (e .1 .1 .0) (e .1 .1 .1),
+      λ z. c .gather .ensures ∙ gathered (a .top .now) (a .bottom .now) (numberOf (f .net-facts .result)) (refusedWithin (a .top .now) (a .bottom .now) 256) (e .1 .1 .1 .1 .0) (t .number) (l .0) (l .1 .0) (l .1 .1 .0)
+          (o .before .before .zeros .result) (o .before .zeros2 .result) (o .zeros3 .result) (e .1 .0) (e .1 .1 .0) (e .1 .1 .1 .0),
     )
 
 pub collect-spec : {M : Type 1} → statement M

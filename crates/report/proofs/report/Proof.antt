@@ -65,7 +65,8 @@ use Rattle.report.proofs.fill.Symbol.{name as #fill}
 use Rattle.report.proofs.fill.Met as fill-thm
 use Rattle.report.proofs.Arrays.{array-out}
 use Rattle.report.proofs.Tests.{if-return}
-use Rattle.report.proofs.Answers.{answer-of-refusal, table-of-refusal, answer-filled, table-filled, long-enough, not-zero, is-zero}
+use Rattle.report.proofs.Clauses.{says-three}
+use Rattle.report.proofs.Answers.{promise, answer-of-refusal, table-of-refusal, answer-filled, table-filled, long-enough, not-zero, is-zero}
 use Rattle.report.proofs.report.Key.{name as #report}
 use Rattle.report.proofs.report as report
 use Rattle.report.proofs.report.Statement as stated
@@ -157,7 +158,7 @@ module _ {M : Type 1} (𝓤 : URA M) (H : Heap 𝓤) (A : Atoms 𝓤) (W : Given
   exits d zs made is-d is-zs l =
       qed W (Two ∷ ‵ (flft κ₂ q₂) ∷ ‵ (finally R γ zs) ∷ []) ∵
       suffices ! _ (ends-at 𝓤 H A report.ended stayed (report.clauses 𝓤 H A mem run) W ((κs, (q₀, (q₁, (q₂, tt))), tt, a, vals), tt) (out d) d (tt, (tt, (zs, tt))) (tt, (tt, (l, tt)))) $
-      says ! (is-d, is-zs) $
+      says-three ! is-d (promise (now top) (now bottom) ys d is-d) is-zs $
       split ! $ move ! (1 ∷ []) $ split ! $ move ! (3 ∷ 1 ∷ []) $ join ! $ move ! (1 ∷ 0 ∷ []) $ join ! $ move ! (1 ∷ 0 ∷ []) $ join ! $ frame ! $
       nothing ! $ move ! (1 ∷ 0 ∷ []) $ fjoin ! $ nothing ! $ fjoin ! $ nothing ! $ fjoin ! $
       owned ! O.the-row (Is O.the-row) (EL.makes O.the-type O′.the-plain 𝓤 H A) d _ made $ move ! (1 ∷ 0 ∷ []) $ done !

@@ -1,8 +1,7 @@
 -- `report::table_of` meets its contract: a walk of its MIR, by hand. A local array, which `blank` made, is lent as a `&mut [NetRecord]` for a lifetime that
 -- is made for the call of `report`, and comes back at the list that `report` left. All that the proof knows of the callees is that each meets its contract.
 -- Assumes nothing.
-use mathlib.Core.Path.{_≡_, refl, sym, _∙_, ap, subst}
-use mathlib.Core.Bool.{true}
+use mathlib.Core.Path.{_≡_, refl, sym, _∙_, subst}
 use Prim.Native.Nat.{ℕ}
 use mathlib.Core.List.{[], _∷_, List}
 use lib.Dec.{T, lit<}
@@ -43,13 +42,15 @@ use denote.Triple.Clauses.{ensured, lasts}
 use denote.Triple.Entry.{onEntry}
 use denote.Triple.Spec.{Meets, tripleOf}
 use denote.Triple.Table.{entered, cited}
-use denote.Triple.Walked.{says, Stays, stay-dropped, walkOf, AllGo, goes-dropped, Walks, ends-at, walked, walk-meets}
+use denote.Triple.Walked.{Stays, stay-dropped, walkOf, AllGo, goes-dropped, Walks, ends-at, walked, walk-meets}
 use denote.Signature.{plain, shrSliceOf}
 use denote.Exit.{yes}
-use Rattle.report.specs.Report.{reported, tableAfter, blankTable}
+use Rattle.report.specs.Report.{numberOf, refused, reported, tableAfter, blankTable}
 use Rattle.report.specs.declared.NetRecord.{NetRecord}
 use Rattle.report.specs.declared.Reported.{Reported}
 use Rattle.report.proofs.Arrays.{array-val, array-typed-at, to-cells, from-cells, array-in}
+use Rattle.report.proofs.Answers.{Replied, replied}
+use Rattle.report.proofs.Clauses.{Three as Three′, says-three, three-heard}
 use Rattle.report.proofs.Reported as O
 use Rattle.report.proofs.Reported.Laws as O′
 use Rattle.report.proofs.Reply as P
@@ -143,13 +144,19 @@ module _ {M : Type 1} (𝓤 : URA M) (H : Heap 𝓤) (A : Atoms 𝓤) (W : Given
   x b γ l = record { ptr = (b, 0); name = γ; now = l }
 
   abbrev Facts : List NetRecord → Reported → List NetRecord → Type 0
-  Facts xs r zs = (r ≡ reported (now top) (now bottom) xs) × (zs ≡ tableAfter (now top) (now bottom) xs)
+  Facts xs r zs = (r ≡ reported (now top) (now bottom) xs) × ((numberOf r ≡ refused (now top) (now bottom) (length xs)) × (zs ≡ tableAfter (now top) (now bottom) xs))
 
-  exits : (r : Reported) (zs : List NetRecord) (w : Val) → Is P.the-row (record { answer = r; table = zs }) (pv w zs ∷ []) → Facts blankTable r zs
+  abbrev Clauses : List NetRecord → Reported → List NetRecord → SProp 𝓤
+  Clauses xs r zs = Three′ 𝓤 (r ≡ reported (now top) (now bottom) xs) (numberOf r ≡ refused (now top) (now bottom) (length xs)) (zs ≡ tableAfter (now top) (now bottom) xs)
+
+  heard-all : (xs : List NetRecord) (r : Reported) (zs : List NetRecord) → ent 𝓤 (Clauses xs r zs) (fact 𝓤 (Facts xs r zs))
+  heard-all xs r zs = three-heard 𝓤 (r ≡ reported (now top) (now bottom) xs) (numberOf r ≡ refused (now top) (now bottom) (length xs)) (zs ≡ tableAfter (now top) (now bottom) xs)
+
+  exits : (r : Reported) (zs : List NetRecord) (w : Val) → Is P.the-row (record { answer = r; table = zs }) (pv w zs ∷ []) → Replied (now top) (now bottom) r zs
       → ent 𝓤 (⋆ 𝓤 H A (‵ (flft κ₁ q₁) ∷ ‵ (flft κ₀ q₀) ∷ [])) (Post (pv w zs))
   exits r zs w made e =
       qed W (‵ (flft κ₁ q₁) ∷ ‵ (flft κ₀ q₀) ∷ []) ∵
-      suffices ! _ (ends-at 𝓤 H A table-of.ended stayed (table-of.clauses 𝓤 H A mem′ run) W ((κs, (q₀, (q₁, tt)), tt, a, vals), tt) (pv w zs) (record { answer = r; table = zs }) (tt, (tt, tt)) (tt, (tt, tt))) $ says ! e $
+      suffices ! _ (ends-at 𝓤 H A table-of.ended stayed (table-of.clauses 𝓤 H A mem′ run) W ((κs, (q₀, (q₁, tt)), tt, a, vals), tt) (pv w zs) (record { answer = r; table = zs }) (tt, (tt, tt)) (tt, (tt, tt))) $ says-three ! (e .0) (e .1 .0) (e .1 .1) $
       nothing ! $ move ! (1 ∷ 0 ∷ []) $ join ! $ move ! (1 ∷ 0 ∷ []) $ join ! $ frame ! $
       owned ! P.the-row (Is P.the-row) (LL.makes P.the-type P′.the-plain 𝓤 H A) (record { answer = r; table = zs }) _ made $
       nothing ! $ nothing ! $ fjoin ! $ nothing ! $ fjoin ! $ done !
@@ -166,8 +173,8 @@ module _ {M : Type 1} (𝓤 : URA M) (H : Heap 𝓤) (A : Atoms 𝓤) (W : Given
   asks-report : (ν b : ℕ) (γ : GName) (xs : List NetRecord) → ent 𝓤 (⋆ 𝓤 H A (Three ν ∷ ‵ (Passed ν b γ xs) ∷ [])) (Report 𝓤 H A mem′ run .pre (to-report ν b γ xs))
   asks-report ν b γ xs = qed W (Three ν ∷ ‵ (Passed ν b γ xs) ∷ []) ∵ join ! $ frame ! $ done !
 
-  result : (xs : List NetRecord) (r : Reported) (zs : List NetRecord) → xs ≡ blankTable → Facts xs r zs → Facts blankTable r zs
-  result xs r zs e f = (f .0 ∙ ap (reported (now top) (now bottom)) e, f .1 ∙ ap (tableAfter (now top) (now bottom)) e)
+  result : (xs : List NetRecord) (r : Reported) (zs : List NetRecord) → xs ≡ blankTable → Facts xs r zs → Replied (now top) (now bottom) r zs
+  result xs r zs e f = replied (now top) (now bottom) xs r zs e (f .0) (f .1 .1)
 
   module _ (C : Calls 𝓤 H) (Λ : Loops 𝓤 H) (fm : FmC 𝓤 H (W .laws) C) (known-blank : Triple 𝓤 (C #blank) (Blank 𝓤 H A mem′ run)) (known-report : Triple 𝓤 (C #report) (Report 𝓤 H A mem′ run)) where
     walk : Room u16 (length (top .now)) → Room u16 (length (bottom .now))
@@ -199,8 +206,8 @@ module _ {M : Type 1} (𝓤 : URA M) (H : Heap 𝓤) (A : Atoms 𝓤) (W : Given
         calls-at ! fm (Report 𝓤 H A mem′ run) known-report (to-report ν l₃ γ xs) (and-then ! (load ! (from ! (stop !)) (look ! 13 refl)) (and-then ! (load ! (from ! (stop !)) (look ! 11 refl)) (and-then ! (load ! (from ! (stop !)) (look ! 2 refl)) (no-more !)))) (λ w.
         use1 W (later (some (λ (r : Reported). (Three ν ⊛ ‵ (O.the-row .own r (w ∷ []))) ⊛ raw (ensured 𝓤 H A report.ended (report.clauses 𝓤 H A mem′ run) (κ₀, (κ₁, (ν ∷ [], tt))) (top, (bottom, (x l₃ γ xs, tt))) tt r)))) (id⊢ 𝓤 _) $ await ! tt $ pick! ! (λ r.
         split ! $ move ! (1 ∷ []) $
-        use1 W (some (λ (zs : Unit {0} × (Unit {0} × (List NetRecord × Unit {0}))). ‵ (lasts report.ended (κ₀, (κ₁, (ν ∷ [], tt))) (top, (bottom, (x l₃ γ xs, tt))) zs) ⊛ raw (fact 𝓤 (Facts xs r (zs .1 .1 .0))))) (id⊢ 𝓤 _) $ pick! ! (λ zs.
-        split ! $ move ! (1 ∷ []) $ heard ! (Facts xs r (zs .1 .1 .0)) (λ e₂. fsplit ! $ drop ! $ fsplit ! $ drop ! $ fsplit ! $ fsplit ! $ move ! (1 ∷ []) $ feqL ! (λ l.
+        use1 W (some (λ (zs : Unit {0} × (Unit {0} × (List NetRecord × Unit {0}))). ‵ (lasts report.ended (κ₀, (κ₁, (ν ∷ [], tt))) (top, (bottom, (x l₃ γ xs, tt))) zs) ⊛ raw (Clauses xs r (zs .1 .1 .0)))) (id⊢ 𝓤 _) $ pick! ! (λ zs.
+        split ! $ move ! (1 ∷ []) $ use1 W (raw (fact 𝓤 (Facts xs r (zs .1 .1 .0)))) (heard-all xs r (zs .1 .1 .0)) $ heard ! (Facts xs r (zs .1 .1 .0)) (λ e₂. fsplit ! $ drop ! $ fsplit ! $ drop ! $ fsplit ! $ fsplit ! $ move ! (1 ∷ []) $ feqL ! (λ l.
         -- [the last list; true; the tokens and the result; the lender's part; _7; …]
         move ! (2 ∷ []) $ split ! $ move ! (1 ∷ []) $ peeks ! O.the-row (Is O.the-row) (shows 𝓤 H A O.the-row) r (w ∷ []) (λ is′.
         land ! (from ! (stop !)) (init ! 11 refl (EL.lawful O.the-type O′.the-laws 𝓤 H A W tt .typed r _ is′ .0)) $ drop ! $

@@ -10,8 +10,10 @@ use lib.Dec.{eqb, ltb, leb}
 use lib.ListN.{length, drop, getD}
 use Rattle.grid.specs.Channel.{pick, times, pins, left, density, twoPin, tracks, rowsRefused}
 use Rattle.grid.specs.Nets.{firstColumn, lastColumn, table}
-use Rattle.grid.specs.Answers as rows
-use Rattle.grid.proofs.Tests.{ne-eqb, le-ltb, lt-ltb}
+use Rattle.grid.specs.Refusals.{ifAccepted}
+use Rattle.grid.specs.Answers.{refusedWithin}
+use Rattle.grid.proofs.Tests.{ne-eqb, le-ltb}
+use Rattle.grid.proofs.Answers.{accepted, accepted-new}
 use Rattle.grid.proofs.Rows.{RowsFit, rows-fit}
 use Rattle.grid.proofs.Counting.{holds-times, at-below}
 use Rattle.grid.proofs.Nets.{begun, goes-on}
@@ -19,15 +21,17 @@ use Rattle.grid.proofs.Tables.{table-at, table-none}
 use Rattle.sweep.specs.declared.Figures.{Figures}
 use Rattle.sweep.specs.declared.Routed.{Routed}
 use Rattle.sweep.specs.declared.Routed.the-variants as routed
+use Rattle.sweep.specs.declared.Length.{Length}
 use Rattle.sweep.specs.declared.Length.the-variants as stated
 use Rattle.sweep.specs.Drawing
 use Rattle.sweep.specs.Drawing.{width, layout}
-use Rattle.sweep.specs.Answers.{numberOf, figuresOf, routedBy, firstOf, sliceLength, need, refused, figures, answer, written}
+use Rattle.sweep.specs.Answers.{numberOf, figuresOf, noFigures, lengthNumberOf, entriesOf, routedBy}
+use Rattle.sweep.specs.Answers.{sliceLength, need, refused, figures, answer, written}
 use Rattle.sweep.specs.Promise.{Solves}
 use Rattle.sweep.specs.State.{Spans, Ready, Sound}
 use Rattle.sweep.proofs.Solved.{layout-length}
 use Rattle.sweep.proofs.Applied.{tracks-most, column-applies}
-use Rattle.sweep.proofs.Answered.{answer-number, answer-figures, passes, written-refused, written-drawn, written-solution}
+use Rattle.sweep.proofs.Answered.{need-promise, answer-promise, passes, refuses, too-short, written-refused, written-drawn, written-solution}
 use Rattle.sweep.proofs.Router.Strands.{below-or}
 
 -- ---- what the sweep goes by
@@ -96,52 +100,72 @@ module _ (top bottom : List ℕ) where
   unfolding need sliceLength
   need-stated n t m e en et em = rw (e, em, en, et) refl
 
+  -- all that it promises, by its answer
+  pub need-promised : (r : Length) → r ≡ need top bottom
+      → (r ≡ need top bottom) × ((lengthNumberOf r ≡ rowsRefused top bottom 256) × (entriesOf r ≡ ifAccepted (lengthNumberOf r) (sliceLength top bottom) 0))
+  need-promised r e = (e, need-promise top bottom r e)
+
+-- with a limit of columns
+module _ (top bottom : List ℕ) (most : ℕ) where
   -- the answer by the number of the refusal
-  answer-by : (lent k : ℕ) → refused top bottom lent ≡ k → routedBy k (figures top bottom) ≡ answer top bottom lent
+  answer-by : (lent k : ℕ) → refused top bottom most lent ≡ k → routedBy k (figures top bottom) ≡ answer top bottom most lent
   unfolding answer
   answer-by lent k e = ap (λ (z : ℕ). routedBy z (figures top bottom)) (sym e)
 
   -- a routing call that is let through draws a solution
-  solves : (old : List ℕ) → refused top bottom (length old) ≡ 0 → Solves top bottom (written top bottom old) (figures top bottom)
+  solves : (old : List ℕ) → refused top bottom most (length old) ≡ 0 → Solves top bottom (written top bottom most old) (figures top bottom)
   unfolding figures tracks
-  solves old q = record { solution = written-solution top bottom old q; dense = refl; two = λ e. rw e refl; many = λ e. rw e refl }
+  solves old q = record { solution = written-solution top bottom most old q; dense = refl; two = λ e. rw e refl; many = λ e. rw e refl }
 
-  pub promised : (old new : List ℕ) (r : Routed) → r ≡ answer top bottom (length old) → new ≡ written top bottom old → numberOf r ≡ 0 → Solves top bottom new (figuresOf r)
-  promised old new r er en z =
-      let q : refused top bottom (length old) ≡ 0 = sym (answer-number top bottom (length old)) ∙ sym (ap numberOf er) ∙ z in
-      let x : figuresOf r ≡ figures top bottom = ap figuresOf er ∙ answer-figures top bottom (length old) q in
-      subst (λ (y : Figures). Solves top bottom new y) (sym x) (subst (λ (l : List ℕ). Solves top bottom l (figures top bottom)) (sym en) (solves old q))
+  -- all that a routing call promises, by its answer and its slice
+  pub promised : (old new : List ℕ) (r : Routed) → r ≡ answer top bottom most (length old) → new ≡ written top bottom most old
+      → (r ≡ answer top bottom most (length old)) × ((new ≡ written top bottom most old) × ((numberOf r ≡ 0 → Solves top bottom new (figuresOf r))
+      × ((numberOf r ≡ refused top bottom most (length old)) × (figuresOf r ≡ ifAccepted (numberOf r) (figures top bottom) noFigures))))
+  promised old new r er en =
+      let p = answer-promise top bottom most (length old) r er in (
+        er,
+        (
+          en,
+          (
+            λ z.
+                let q : refused top bottom most (length old) ≡ 0 = sym (p .0) ∙ z in
+                let x : figuresOf r ≡ figures top bottom = p .1 ∙ accepted-new (numberOf r) (figures top bottom) noFigures z in
+                subst (λ (y : Figures). Solves top bottom new y) (sym x) (subst (λ (l : List ℕ). Solves top bottom l (figures top bottom)) (sym en) (solves old q)),
+            p,
+          ),
+        ),
+      )
 
   module _ (old : List ℕ) where
     -- rows that are refused
-    pub rows-refused : (k : ℕ) → rowsRefused top bottom 256 ≡ k → k ≢ 0 → (routed.Refused k ≡ answer top bottom (length old)) × (old ≡ written top bottom old)
-    unfolding refused
+    pub rows-refused : (k : ℕ) → refusedWithin top bottom most ≡ k → k ≢ 0
+        → (routed.Refused k ≡ answer top bottom most (length old)) × (old ≡ written top bottom most old)
     rows-refused zero e n = absurd (n refl)
     rows-refused (suc k) e n =
-        let q : refused top bottom (length old) ≡ suc k = ap (λ (z : ℕ). firstOf z (pick (ltb (length old) (sliceLength top bottom)) 8 0)) e in
-        (answer-by (length old) (suc k) q, sym (written-refused top bottom old (λ z. omega arith)))
+        let q : refused top bottom most (length old) ≡ suc k = refuses top bottom most (length old) (suc k) e n in
+        (answer-by (length old) (suc k) q, sym (written-refused top bottom most old (λ z. omega arith)))
 
     -- a slice that is too short
-    pub slice-refused : rowsRefused top bottom 256 ≡ 0 → length old < sliceLength top bottom → (routed.Refused 8 ≡ answer top bottom (length old)) × (old ≡ written top bottom old)
-    unfolding refused
+    pub slice-refused : refusedWithin top bottom most ≡ 0 → length old < sliceLength top bottom
+        → (routed.Refused 8 ≡ answer top bottom most (length old)) × (old ≡ written top bottom most old)
     slice-refused e h =
-        let q : refused top bottom (length old) ≡ 8 = rw (e, lt-ltb (length old) (sliceLength top bottom) h) refl in
-        (answer-by (length old) 8 q, sym (written-refused top bottom old (λ z. omega arith)))
+        let q : refused top bottom most (length old) ≡ 8 = too-short top bottom most (length old) e h in
+        (answer-by (length old) 8 q, sym (written-refused top bottom most old (λ z. omega arith)))
 
     -- a channel that is drawn
-    pub drawn : (new : List ℕ) (d t w : ℕ) → rowsRefused top bottom 256 ≡ 0 → sliceLength top bottom ≤ length old → d ≡ density top bottom → t ≡ tracks top bottom → w ≡ width top bottom
+    pub drawn : (new : List ℕ) (d t w : ℕ) → refusedWithin top bottom most ≡ 0 → sliceLength top bottom ≤ length old → d ≡ density top bottom → t ≡ tracks top bottom → w ≡ width top bottom
         → new ≡ layout top bottom ++ drop (w * (2 * t + 1)) old
-        → (routed.Drawn (record { density = d; tracks = t; width = w }) ≡ answer top bottom (length old)) × (new ≡ written top bottom old)
+        → (routed.Drawn (record { density = d; tracks = t; width = w }) ≡ answer top bottom most (length old)) × (new ≡ written top bottom most old)
     unfolding figures
     drawn new d t w e h ed et ew en =
-        let q : refused top bottom (length old) ≡ 0 = passes top bottom (length old) e h in
-        let s : w * (2 * t + 1) ≡ length (layout top bottom) = cc (layout-length top bottom e) in
-        (cc (answer-by (length old) 0 q), en ∙ ap (λ (z : ℕ). layout top bottom ++ drop z old) s ∙ sym (written-drawn top bottom old q))
+        let q : refused top bottom most (length old) ≡ 0 = passes top bottom most (length old) e h in
+        let s : w * (2 * t + 1) ≡ length (layout top bottom) = cc (layout-length top bottom (accepted top bottom most e)) in
+        (cc (answer-by (length old) 0 q), en ∙ ap (λ (z : ℕ). layout top bottom ++ drop z old) s ∙ sym (written-drawn top bottom most old q))
 
-    -- the slice length by the row check's figures
-    pub length-by : (n t m : ℕ) → n ≡ length top → t ≡ tracks top bottom → m ≡ (n + t / 2) * (2 * t + 1) → m ≡ sliceLength top bottom
-    unfolding sliceLength
-    length-by n t m en et em = cc
+-- the slice length by the row check's figures
+pub length-by : (top bottom : List ℕ) (n t m : ℕ) → n ≡ length top → t ≡ tracks top bottom → m ≡ (n + t / 2) * (2 * t + 1) → m ≡ sliceLength top bottom
+unfolding sliceLength
+length-by top bottom n t m en et em = cc
 
 -- no slice length passes 511 columns of 1023 entries
 pub area : (n t : ℕ) → n ≤ 256 → t ≤ 511 → (n + t / 2) * (2 * t + 1) ≤ 522753

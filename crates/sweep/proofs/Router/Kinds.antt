@@ -1,11 +1,11 @@
 -- Pairs of kinds: their number taken apart, and what a column of a two-pin channel does by them.
-use Prim.Native.Nat.{ℕ, zero, suc, _+_, _*_, _/_, _%_, _≤_, _<_, max}
+use Prim.Native.Nat.{ℕ, zero, suc, _+_, _*_, _/_, _%_, _≤_, _<_}
 use mathlib.Core.Path.{_≡_, refl, sym, ap, ap₂, _∙_}
 use mathlib.Core.Bool.{Bool, true, false, not, _&&_}
 use mathlib.Core.Logic.{_≢_}
 use native.Mathlib.Omega.{arith}
 use lib.Dec.{eqb, ltb}
-use Rattle.grid.proofs.Tests.{eqb-true, ltb-true, and-true, Same, same, diff, sameBy, Below, below, above, belowBy}
+use Rattle.grid.proofs.Tests.{eqb-true, Same, same, diff, sameBy, Below, below, above, belowBy}
 use Rattle.sweep.specs.declared.Action.{Action}
 use Rattle.sweep.specs.declared.Pin.{Pin}
 use Rattle.sweep.specs.declared.Free.{Free}
@@ -39,22 +39,9 @@ not-both a b h = go (eqb a 0) (eqb b 0) refl refl
     go true false e f = refl
     go true true e f = absurd (h (eqb-true a 0 e ∙ sym (eqb-true b 0 f)))
 
--- two kinds that are below 2
-pub both-start : (k l : ℕ) → (ltb k 2 && ltb l 2) ≡ true → (k ≤ 1) × (l ≤ 1)
-both-start k l e = let s = and-true (ltb k 2) (ltb l 2) e in omega (arith, ltb-true k 2 (s .0), ltb-true l 2 (s .1))
-
--- and two that are not both below 2
-pub one-ends : (k l : ℕ) → (ltb k 2 && ltb l 2) ≡ false → 2 ≤ max k l
-one-ends k l e = go (ltb k 2) (ltb l 2) (belowBy k 2) (belowBy l 2) e
-  where
-    go : (p q : Bool) → Below k 2 p → Below l 2 q → (p && q) ≡ false → 2 ≤ max k l
-    go true true a b e = let z : _≡_ {A = ℕ} 0 1 = cc in absurd (omega arith)
-    go true false a (above h) e = omega arith
-    go false q (above h) b e = omega arith
-
--- the kind opposite one that starts or is none, and opposite one that ends, where the number of the pair is none of some
-opposite-start : (k l : ℕ) → k < 2 → (k ≤ 3) × (l ≤ 3) × (2 ≤ max k l) → 4 * k + l ≢ 3 → 4 * k + l ≢ 7 → l ≡ 2
-opposite-start k l i h a b = omega arith
+-- the kind opposite one that does not continue, where the number of the pair is none of those of pins that start, end or are none
+opposite-start : (k l : ℕ) → k < 2 → l ≤ 3 → 4 * k + l ≢ 0 → 4 * k + l ≢ 1 → 4 * k + l ≢ 3 → 4 * k + l ≢ 4 → 4 * k + l ≢ 5 → 4 * k + l ≢ 7 → l ≡ 2
+opposite-start k l i h m0 m1 m3 m4 m5 m7 = omega arith
 
 opposite-end : (k l : ℕ) → 2 ≤ k → k ≢ 2 → (k ≤ 3) × (l ≤ 3) → 4 * k + l ≢ 12 → 4 * k + l ≢ 13 → 4 * k + l ≢ 15 → l ≡ 2
 opposite-end k l i j h a b c = omega arith
@@ -75,22 +62,27 @@ module _ (A B : Pin) (f : Free) (N : Joint) where
   bottom-idle continues = refl
   bottom-idle ends = refl
 
-  -- such are the pairs with a kind of 2 or more but for those of an ending pin
-  pub idle : (k l : ℕ) → (k ≤ 3) × (l ≤ 3) × (2 ≤ max k l) → 4 * k + l ≢ 3 → 4 * k + l ≢ 7 → 4 * k + l ≢ 12 → 4 * k + l ≢ 13 → 4 * k + l ≢ 15
-      → byKinds A B f N (kindOf k) (kindOf l) ≡ straight
+  -- such are the pairs but for those of pins that start, end or are none
+  pub idle : (k l : ℕ) → (k ≤ 3) × (l ≤ 3) → 4 * k + l ≢ 0 → 4 * k + l ≢ 1 → 4 * k + l ≢ 3 → 4 * k + l ≢ 4 → 4 * k + l ≢ 5 → 4 * k + l ≢ 7 → 4 * k + l ≢ 12 → 4 * k + l ≢ 13
+      → 4 * k + l ≢ 15 → byKinds A B f N (kindOf k) (kindOf l) ≡ straight
   unfolding kindOf
-  idle k l h m3 m7 m12 m13 m15 = go (ltb k 2) (eqb k 2) (belowBy k 2) (sameBy k 2)
+  idle k l h m0 m1 m3 m4 m5 m7 m12 m13 m15 = go (ltb k 2) (eqb k 2) (belowBy k 2) (sameBy k 2)
     where
       bottom : l ≡ 2 → byKinds A B f N (kindOf k) (kindOf l) ≡ straight
       bottom e = ap (λ (z : ℕ). byKinds A B f N (kindOf k) (kindOf z)) e ∙ bottom-idle (kindOf k)
 
       go : (p q : Bool) → Below k 2 p → Same k 2 q → byKinds A B f N (kindOf k) (kindOf l) ≡ straight
-      go true q (below i) j = bottom (opposite-start k l i h m3 m7)
+      go true q (below i) j = bottom (opposite-start k l i (h .1) m0 m1 m3 m4 m5 m7)
       go false true (above i) (same j) = ap (λ (z : ℕ). byKinds A B f N (kindOf z) (kindOf l)) j ∙ top-idle (kindOf l)
-      go false false (above i) (diff j) = bottom (opposite-end k l i j (h .0, h .1) m12 m13 m15)
+      go false false (above i) (diff j) = bottom (opposite-end k l i j h m12 m13 m15)
 
   -- a column whose pins are not of one net goes by their kinds
-  pub by-kinds : (t : ℕ) (g : Free) (M : Joint) {x : Action} → (not (eqb (A .net) 0) && eqb (A .net) (B .net)) ≡ false → g ≡ f → M ≡ N
-      → x ≡ byKinds A B g M (kindOf (A .kind)) (kindOf (B .kind)) → x ≡ chooseTwo t A B f N
+  pub by-kinds : (t : ℕ) {x : Action} → (not (eqb (A .net) 0) && eqb (A .net) (B .net)) ≡ false
+      → x ≡ byKinds A B f N (kindOf (A .kind)) (kindOf (B .kind)) → x ≡ chooseTwo t A B f N
   unfolding chooseTwo
-  by-kinds t g M i e n r = rw i (cc)
+  by-kinds t i r = rw i (cc)
+
+  -- and so by the number of their pair
+  pub by-number : (t m : ℕ) {x : Action} → (not (eqb (A .net) 0) && eqb (A .net) (B .net)) ≡ false → 4 * A .kind + B .kind ≡ m → (A .kind ≤ 3) × (B .kind ≤ 3)
+      → x ≡ byKinds A B f N (kindOf (m / 4)) (kindOf (m % 4)) → x ≡ chooseTwo t A B f N
+  by-number t m i e h r = by-kinds t i (at-number (byKinds A B f N) (A .kind) (B .kind) m e h r)

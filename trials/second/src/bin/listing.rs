@@ -6,5 +6,5 @@ use std::io::{Read, Write};
 fn main() -> std::io::Result<()> {
     let mut record = Vec::new();
     std::io::stdin().read_to_end(&mut record)?;
-    std::io::stdout().write_all(second::list(&record).as_bytes())
+    std::io::stdout().write_all(second::printed(&record).as_bytes())
 }

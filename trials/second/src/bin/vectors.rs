@@ -43,7 +43,7 @@ fn listing_agrees(case: &[&str]) -> bool {
     let byte = |i| u8::from_str_radix(&hex[i..i + 2], 16).expect("hexadecimal digits");
     let record: Vec<u8> = (0..hex.len()).step_by(2).map(byte).collect();
     let wanted: String = case[1..].iter().map(|line| format!("{line}\n")).collect();
-    second::list(&record) == wanted
+    second::printed(&record) == wanted
 }
 
 /// Runs the cases of a file; returns how many there are and how many differ.

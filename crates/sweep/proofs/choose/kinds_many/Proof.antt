@@ -1,7 +1,6 @@
 -- `kinds_many` meets its contract: each arm of the match, by the number of its pair of kinds.
 use Rattle.sweep.proofs.Router.Kinds.{at-number, none-of}
 use native.Mathlib.Omega.{arith}
-use Rattle.sweep.proofs.Router.Kinds.{at-number}
 use Rattle.sweep.specs.ManyPin
 use Rattle.sweep.specs.Rules
 use borrow.Author.Needs.{needs}

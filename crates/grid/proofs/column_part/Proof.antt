@@ -1,12 +1,11 @@
--- `gaxwethi_column` meets its contract: each refused case gives no part; the column's place is that in the largest drawing at most. Assumes nothing.
+-- `grid::column_part` meets its contract: each refused case gives the empty part; the offset is one in the largest drawing at most. Assumes nothing.
 use Prim.Native.Nat.{_+_, _*_, _-_}
 use mathlib.Core.Path.{refl, _∙_}
-use Rattle.grid.proofs.Views.{product-le}
-use Rattle.export.proofs.Columns.{too-wide, too-tall, wrong-size, no-column, past-last, found}
+use Rattle.grid.proofs.Views.{product-le, too-wide, too-tall, wrong-size, no-column, past-last, found}
 use native.Mathlib.Omega.{arith}
 use borrow.Author.Needs.{needs}
-use Rattle.export.proofs.gaxwethi_column.Statement.{statement}
-use Rattle.export.proofs.gaxwethi_column.Tie as tie
+use Rattle.grid.proofs.column_part.Statement.{statement}
+use Rattle.grid.proofs.column_part.Tie as tie
 
 no-part-requires : tie.Need-no-part-requires
 no-part-requires c κs = search needs
@@ -70,8 +69,8 @@ returns-6 c =
     let a = c .before .before .before .before .before .args in
     found (a .len) (a .w) (a .t) (a .c) (c .before .before .before .before .if1 .left) (c .before .before .before .if2 .left) (c .before .before .if3 .left) (c .before .if4 .left) _ refl (c .if5 .left)
 
-pub gaxwethi-column-spec : {M : Type 1} → statement M
-gaxwethi-column-spec =
+pub column-part-spec : {M : Type 1} → statement M
+column-part-spec =
     tie.close
     (tie.spec
     no-part-requires

@@ -1,8 +1,13 @@
--- Bytes put over a text from a place on: what the writers' contracts cite.
+-- What the private functions of the listing promise each other: bytes put over a text from a place on. No promise of a public call rests on these.
 use Prim.Native.Nat.{ℕ, _+_, _≤_}
 use mathlib.Core.Path.{_≡_}
 use mathlib.Core.List.{List, _++_}
 use lib.ListN.{length, take, drop}
+use Rattle.grid.specs.Refusals.{ifAccepted}
+use Rattle.record.specs.Record.{laid}
+use Rattle.record.specs.Counts.{Counts}
+use Rattle.listing.specs.declared.Listed.{Listed}
+use Rattle.listing.specs.Listing.{lengthOf, listedBy}
 
 -- there is room for new from place at on
 pub record Room (old : List ℕ) (at : ℕ) (new : List ℕ) : Type 0 where
@@ -18,3 +23,9 @@ pub record Put (old : List ℕ) (at : ℕ) (new : List ℕ) (after : ℕ) (now :
   pub ends : after ≡ at + length new
   pub fits : after ≤ length old
   pub keeps : length now ≡ length old
+
+-- what a listing with a number and the text new answers, and leaves of a text that held old
+pub record Lists (number : ℕ) (new old : List ℕ) (r : Listed) (now : List ℕ) : Type 0 where
+  pub answer : r ≡ listedBy number (length new)
+  pub text : now ≡ ifAccepted number (laid new old) old
+  pub counts : Counts (lengthOf r) now

@@ -1,0 +1,92 @@
+-- The checker's tests of refusals 13 to 16 in the words of `Faults`: what each says of an entry's position, or of a net. Assumes nothing.
+use Prim.Native.Nat.{ℕ, suc, _+_, _*_, _-_, _/_, _%_, _≤_, _<_}
+use mathlib.Core.Path.{_≡_, refl, sym, _∙_, ap}
+use mathlib.Core.Logic.{_≢_, _↔_, _⊎_, inl, inr, ⊎-elim}
+use mathlib.Core.Bool.{true, false, not, _&&_}
+use mathlib.Core.List.{List}
+use lib.ListN.{length, getD}
+use lib.Dec.{eqb, ltb}
+use native.Mathlib.Omega.{arith}
+use native.Mathlib.Nat.{mod-lt, div-add-mod'}
+use Rattle.grid.specs.Channel.{pins}
+use Rattle.grid.specs.Grid.{OnePiece, verticalOf, horizontalOf}
+use Rattle.grid.proofs.Tests.{eq-eqb, ne-eqb, eqb-true, eqb-false, ltb-true, not-true, and-true}
+use Rattle.checker.specs.Faults.{Strange, PinWrong, LeavesLast, Split}
+use Rattle.checker.specs.Check.{strange, mispinned, leavesLast, split}
+use Rattle.checker.specs.Pieces.Edges.{vert-at, horz-at, netOf}
+use Rattle.checker.proofs.Lowest.{not-both}
+use Rattle.checker.proofs.entries.Pins.{pin-low, pin-high, column-below, wrong-pin}
+use Rattle.checker.proofs.entries.Last.{last-edge-in}
+use Rattle.checker.proofs.pieces.Splits.{not-split, is-split}
+
+-- 13
+pub strange-at : (top bottom D : List ℕ) (p : ℕ) → (strange top bottom D p ≡ true) ↔ Strange top bottom D p
+strange-at top bottom D p = (
+  λ h.
+      let (m, n) = and-true (not (eqb (getD D p 0) 0)) (eqb (pins top bottom (getD D p 0)) 0) h in
+      (eqb-false (getD D p 0) 0 (not-true (eqb (getD D p 0) 0) m), eqb-true (pins top bottom (getD D p 0)) 0 n),
+  λ (n, z). rw (ne-eqb (getD D p 0) 0 n, eq-eqb (pins top bottom (getD D p 0)) 0 z),
+)
+
+-- 14
+module _ (top bottom : List ℕ) (w t : ℕ) (D : List ℕ) (p : ℕ) where
+  pub pin-wrong-at : length D ≡ w * (2 * t + 1) → p < length D → (mispinned top bottom t D p ≡ true) ↔ PinWrong top bottom w t D p
+  pin-wrong-at size l = (λ h. there h, λ (x, k, c). back x c)
+    where
+      there : mispinned top bottom t D p ≡ true → PinWrong top bottom w t D p
+      there h =
+          let x = p / (2 * t + 1) in
+          let i = p % (2 * t + 1) in
+          let e : x * (2 * t + 1) + i ≡ p = div-add-mod' p (2 * t + 1) in (
+            x,
+            column-below w t x i (omega arith),
+            ⊎-elim
+                (λ (c : (i ≡ 0) × (getD D p 0 ≢ getD bottom x 0)).
+                inl (omega (arith, c .0), λ z. c .1 (ap (netOf D) (omega (arith, c .0)) ∙ sym (vert-at D t x 0 (omega arith)) ∙ z)))
+                (λ (c : (i ≡ t) × (getD D p 0 ≢ getD top x 0)).
+                inr (omega (arith, c .0), λ z. c .1 (ap (netOf D) (omega (arith, c .0)) ∙ sym (vert-at D t x t (omega arith)) ∙ z)))
+                (wrong-pin t (getD top x 0) (getD bottom x 0) (getD D p 0) i h),
+          )
+
+      back :
+          (x : ℕ)
+          → ((p ≡ x * (2 * t + 1)) × (verticalOf D t x 0 ≢ getD bottom x 0)) ⊎ ((p ≡ x * (2 * t + 1) + t) × (verticalOf D t x t ≢ getD top x 0))
+          → mispinned top bottom t D p ≡ true
+      back x (inl (e, n)) = pin-low top bottom t D x p e (λ z. n (vert-at D t x 0 (omega arith) ∙ ap (netOf D) (omega arith) ∙ z))
+      back x (inr (e, n)) = rw e (pin-high top bottom t D x (x * (2 * t + 1)) refl (λ z. n (vert-at D t x t (omega arith) ∙ z)))
+
+-- 15
+pub leaves-last-at : (w t : ℕ) (D : List ℕ) (p : ℕ) → (leavesLast w t D p ≡ true) ↔ LeavesLast w t D p
+leaves-last-at w t D p = (λ h. there h, λ (x, j, e, l, o, n). back x j e l o n)
+  where
+    there : leavesLast w t D p ≡ true → LeavesLast w t D p
+    there h =
+        let x = p / (2 * t + 1) in
+        let i = p % (2 * t + 1) in
+        let (a, m) = and-true (eqb (suc x) w) (ltb t i && not (eqb (getD D p 0) 0)) h in
+        let (b, c) = and-true (ltb t i) (not (eqb (getD D p 0) 0)) m in
+        let k : t < i = ltb-true t i b in
+        let j : ℕ = i - t - 1 in
+        let l : j < t = omega (arith, mod-lt p {m = 2 * t + 1} (omega arith)) in
+        let o : p ≡ x * (2 * t + 1) + t + 1 + j = omega (arith, div-add-mod' p (2 * t + 1)) in (
+          x,
+          j,
+          eqb-true (suc x) w a,
+          l,
+          o,
+          λ z. eqb-false (getD D p 0) 0 (not-true (eqb (getD D p 0) 0) c) (ap (netOf D) o ∙ sym (horz-at D t x j l) ∙ z),
+        )
+
+    back : (x j : ℕ) → suc x ≡ w → j < t → p ≡ x * (2 * t + 1) + t + 1 + j → horizontalOf D t x j ≢ 0 → leavesLast w t D p ≡ true
+    back x j e l o n =
+        last-edge-in w t D p x (t + 1 + j) (omega arith) (omega arith) e (omega arith) (λ z. n (horz-at D t x j l ∙ ap (netOf D) (sym o) ∙ z))
+
+-- 16
+pub split-at : (t : ℕ) (D : List ℕ) (N : ℕ) → (split t D N ≡ true) ↔ Split t D N
+split-at t D N = (
+  λ h. (
+    λ z. not-both (split t D N) h (not-split t D N (λ n. absurd (n z))),
+    λ o. not-both (split t D N) h (not-split t D N (λ n. o)),
+  ),
+  λ (n, h). is-split t D N n h,
+)

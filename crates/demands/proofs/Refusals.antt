@@ -1,0 +1,106 @@
+-- The first demand is met: the numbers, the zeros and the places. Assumes nothing.
+use Prim.Native.Nat.{ℕ, _≤_, min}
+use mathlib.Core.Path.{refl, sym, subst, _∙_}
+use mathlib.Core.List.{List}
+use native.Mathlib.Omega.{arith}
+use lib.ListN.{length}
+use Rattle.grid.specs.Answers as counting
+use Rattle.grid.proofs.Answers.{check-number, check-figures, density-number, density-figure, accepted-old}
+use Rattle.sweep.specs.Answers as routing
+use Rattle.sweep.proofs.Answered.{need-number, need-entries, answer-number, answer-figures}
+use Rattle.checker.specs.Check as checking
+use Rattle.checker.proofs.Answers.{check-parts, place-low}
+use Rattle.report.specs.Report as reporting
+use Rattle.report.proofs.Answers as report
+use Rattle.record.specs.Record as reading
+use Rattle.record.specs.Record.{topRow, bottomRow}
+use Rattle.record.proofs.Table.{numbered, columns-by}
+use Rattle.listing.specs.Listing as listing
+use Rattle.listing.proofs.Records.{listed-number, listed-length}
+use Rattle.demands.specs.Table.{First, end, ofRecord, ofRows, ofLayout, ofNetTable, ofDrawing}
+use Rattle.demands.specs.Refusals.{Refuses, RefusesRecord, Zeros, ZerosRecord, Places}
+use Rattle.demands.proofs.Lines.{alone, rows-lines, rows-first, layout-first, table-first, record-lines}
+use Rattle.demands.proofs.Drawings.{drawing-lines, strange-least, pin-least, last-least, split-least}
+
+-- THE NUMBERS
+module _ (top bottom : List ℕ) where
+  -- a limit of columns, at most 256
+  within : (most : ℕ) → min most 256 ≤ 256
+  within most = omega arith
+
+  pub route-first : (most lent : ℕ)
+      → First (ofRows top bottom (min most 256) (ofLayout top bottom lent)) (routing.numberOf (routing.answer top bottom most lent))
+  unfolding routing.refused
+  route-first most lent =
+      subst (λ (k : ℕ). First (ofRows top bottom (min most 256) (ofLayout top bottom lent)) k) (sym (answer-number top bottom most lent))
+      (rows-lines top bottom (min most 256) (within most) _ _ (λ e. layout-first top bottom lent))
+
+  report-first : (lent : ℕ) → First (ofRows top bottom 256 (ofNetTable lent)) (reporting.refused top bottom lent)
+  unfolding reporting.refused
+  report-first lent = rows-lines top bottom 256 (omega arith) _ _ (λ e. table-first lent)
+
+  check-first : (w t : ℕ) (D : List ℕ) → First (ofRows top bottom 256 (ofDrawing top bottom w t D)) (checking.refused top bottom w t D)
+  unfolding checking.refused
+  check-first w t D = rows-lines top bottom 256 (omega arith) _ _ (λ e. drawing-lines top bottom w t D e)
+
+  -- for all rows
+  pub refuses : Refuses top bottom
+  refuses =
+      record {
+        rows = λ most.
+            subst (λ (k : ℕ). First (ofRows top bottom (min most 256) end) k) (sym (check-number top bottom most))
+            (rows-first top bottom (min most 256) (within most));
+        density = subst (λ (k : ℕ). First (ofRows top bottom 256 end) k) (sym (density-number top bottom)) (rows-first top bottom 256 (omega arith));
+        need = subst (λ (k : ℕ). First (ofRows top bottom 256 end) k) (sym (need-number top bottom)) (rows-first top bottom 256 (omega arith));
+        route = route-first;
+        check = λ w t D.
+            subst (λ (k : ℕ). First (ofRows top bottom 256 (ofDrawing top bottom w t D)) k) (sym (check-parts top bottom w t D .0)) (check-first w t D);
+        report = λ table.
+            subst (λ (k : ℕ). First (ofRows top bottom 256 (ofNetTable (length table))) k) (sym (report.number top bottom table)) (report-first (length table));
+      }
+
+  -- THE ZEROS
+  pub zeros : Zeros top bottom
+  zeros =
+      record {
+        rows = λ most n. check-figures top bottom most ∙ accepted-old _ _ counting.noSize (λ z. n (check-number top bottom most ∙ z));
+        density = λ n. density-figure top bottom ∙ accepted-old _ _ 0 (λ z. n (density-number top bottom ∙ z));
+        need = λ n. need-entries top bottom ∙ accepted-old _ _ 0 (λ z. n (need-number top bottom ∙ z));
+        route = λ most lent n. answer-figures top bottom most lent ∙ accepted-old _ _ routing.noFigures (λ z. n (answer-number top bottom most lent ∙ z));
+      }
+
+  -- THE PLACES
+  pub places : (w t : ℕ) (D : List ℕ) → Places top bottom w t D
+  places w t D =
+      let n = check-parts top bottom w t D .0 in
+      let p = check-parts top bottom w t D .1 in
+      record {
+        strange = λ e. strange-least top bottom w t D _ (sym n ∙ e) p;
+        pin = λ e. pin-least top bottom w t D _ (sym n ∙ e) p;
+        last = λ e. last-least top bottom w t D _ (sym n ∙ e) p;
+        split = λ e. split-least top bottom w t D _ (sym n ∙ e) p;
+        other = λ l. p ∙ place-low top bottom w t D _ (omega (arith, l, n));
+      }
+
+-- A RECORD
+module _ (s : List ℕ) where
+  read-first : First (ofRecord s end) (reading.recordRefused s)
+  unfolding First
+  read-first = subst (λ (k : ℕ). First (ofRecord s end) k) (alone (reading.recordRefused s)) (record-lines s 0 end refl)
+
+  pub list-first : First (ofRecord s (ofRows (topRow s) (bottomRow s) 64 end)) (listing.numberOf (listing.listed s))
+  unfolding listing.refused
+  list-first =
+      subst (λ (k : ℕ). First (ofRecord s (ofRows (topRow s) (bottomRow s) 64 end)) k) (sym (listed-number s))
+      (record-lines s _ _ (rows-first (topRow s) (bottomRow s) 64 (omega arith)))
+
+  -- for all bytes
+  pub refuses-record : RefusesRecord s
+  refuses-record = record { read = subst (λ (k : ℕ). First (ofRecord s end) k) (sym (numbered s)) read-first; list = list-first }
+
+  pub zeros-record : ZerosRecord s
+  zeros-record =
+      record {
+        read = λ n. columns-by s (reading.recordRead s) refl ∙ accepted-old _ _ 0 n;
+        list = λ n. listed-length s ∙ accepted-old _ _ 0 (λ z. n (listed-number s ∙ z));
+      }

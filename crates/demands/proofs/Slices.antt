@@ -1,0 +1,87 @@
+-- What the lent slices hold after a call, and the column that is handed back. Assumes nothing.
+use Prim.Native.Nat.{ℕ, _+_, _*_, _-_, _≤_}
+use mathlib.Core.Path.{_≡_, refl, sym, ap, _∙_}
+use mathlib.Core.Logic.{_≢_, _⊎_, inl, inr, ⊎-elim, by-cases}
+use mathlib.Core.List.{List, []}
+use native.Mathlib.Omega.{arith}
+use native.Mathlib.Decide.{decLt, ℕ-discrete}
+use lib.ListN.{length, drop, length-drop}
+use lib.Seq.{length-take-le}
+use Rattle.grid.specs.declared.Part.{Part}
+use Rattle.grid.specs.Grid.{columnOf}
+use Rattle.grid.specs.View.{columnPart, columnView, partOf, noPart}
+use Rattle.grid.specs.Answers as counting
+use Rattle.grid.proofs.Answers.{accepted-new, accepted-old}
+use Rattle.grid.proofs.Views.{part-end, too-wide, too-tall, wrong-size, no-column, past-last, found}
+use Rattle.sweep.proofs.Answered.{answer-number, written-refused, written-drawn}
+use Rattle.report.specs.Report as reporting
+use Rattle.report.proofs.Answers as report
+use Rattle.record.specs.Record as reading
+use Rattle.record.specs.Record.{topRow, bottomRow, laid}
+use Rattle.listing.specs.Listing as listing
+use Rattle.demands.specs.Slices.{Leaves, LeavesRecord, NoColumn, Shows}
+
+-- for all rows
+pub leaves : (top bottom : List ℕ) → Leaves top bottom
+leaves top bottom =
+    record {
+      routeRefused = λ most old n. written-refused top bottom most old (λ z. n (answer-number top bottom most (length old) ∙ z));
+      reportRefused = λ old n.
+          sym (report.table-of-refusal top bottom old (reporting.numberOf (reporting.reported top bottom old)) (report.number top bottom old) n);
+      factsRefused = λ most new old n. accepted-old (counting.numberOf (counting.rowCheck top bottom most)) new old n;
+      routeDrawn = λ most old e. written-drawn top bottom most old (sym (answer-number top bottom most (length old)) ∙ e);
+      reportFilled = λ old e. sym (report.table-filled top bottom old (reporting.numberOf (reporting.reported top bottom old)) (report.number top bottom old) e);
+      factsFilled = λ most new old e. accepted-new (counting.numberOf (counting.rowCheck top bottom most)) new old e;
+    }
+
+-- for all bytes
+pub leaves-record : (s : List ℕ) → LeavesRecord s
+leaves-record s =
+    let k = reading.number (reading.recordRead s) in
+    let j = listing.numberOf (listing.listed s) in
+    record {
+      rowsRefused = λ old n. (accepted-old k (laid (topRow s) old) old n, accepted-old k (laid (bottomRow s) old) old n);
+      rowsRead = λ old e. (accepted-new k (laid (topRow s) old) old e, accepted-new k (laid (bottomRow s) old) old e);
+      textRefused = λ old n. accepted-old j (laid (listing.textOf s) old) old n;
+      textListed = λ old e. accepted-new j (laid (listing.textOf s) old) old e;
+    }
+
+-- for all layouts
+module _ (D : List ℕ) (w t c : ℕ) where
+  -- the column by its part
+  of-part : (p : Part) → p ≡ columnPart (length D) w t c → columnView D w t c ≡ partOf D p
+  unfolding columnView
+  of-part p e = ap (λ (q : Part). partOf D q) (sym e)
+
+  -- a test that comes first
+  first : {A B C : Type 0} → Dec A → (A → C) → ((A → ⊥) → B → C) → A ⊎ B → C
+  first {A} {B} {C} (yes a) f g s = f a
+  first {A} {B} {C} (no n) f g s = ⊎-elim (λ (a : A). absurd (n a)) (λ (b : B). g n b) s
+
+  none : NoColumn D w t c → columnView D w t c ≡ []
+  none =
+      first (decLt 511 w) (λ h. of-part noPart (too-wide (length D) w t c h)) (λ a.
+      first (decLt 511 t) (λ h. of-part noPart (too-tall (length D) w t c (omega (arith, a)) h)) (λ b.
+      first (decNe (length D) (w * (2 * t + 1))) (λ h. of-part noPart (wrong-size (length D) w t c (omega (arith, a)) (omega (arith, b)) h)) (λ e.
+      first (decLt c 1) (λ h. of-part noPart (no-column (length D) w t c (omega (arith, a)) (omega (arith, b)) (same e) h)) (λ f h.
+      of-part noPart (past-last (length D) w t c (omega (arith, a)) (omega (arith, b)) (same e) (omega (arith, f)) h)))))
+    where
+      same : ((length D ≢ w * (2 * t + 1)) → ⊥) → length D ≡ w * (2 * t + 1)
+      same n = by-cases (ℕ-discrete (length D) (w * (2 * t + 1))) (λ e. e) (λ m. absurd (n m))
+
+      decNe : (x y : ℕ) → Dec (x ≢ y)
+      decNe x y = by-cases (ℕ-discrete x y) (λ e. no (λ n. n e)) (λ n. yes n)
+
+  shown : (NoColumn D w t c → ⊥) → (columnView D w t c ≡ columnOf D t (c - 1)) × (length (columnView D w t c) ≡ 2 * t + 1)
+  shown n =
+      let a : w ≤ 511 = by-cases (decLt 511 w) (λ h. absurd (n (inl h))) (λ h. omega (arith, h)) in
+      let b : t ≤ 511 = by-cases (decLt 511 t) (λ h. absurd (n (inr (inl h)))) (λ h. omega (arith, h)) in
+      let e : length D ≡ w * (2 * t + 1) = by-cases (ℕ-discrete (length D) (w * (2 * t + 1))) (λ q. q) (λ m. absurd (n (inr (inr (inl m))))) in
+      let f : 1 ≤ c = by-cases (decLt c 1) (λ h. absurd (n (inr (inr (inr (inl h)))))) (λ h. omega (arith, h)) in
+      let g : c ≤ w = by-cases (decLt w c) (λ h. absurd (n (inr (inr (inr (inr h)))))) (λ h. omega (arith, h)) in
+      let v = of-part (record { offset = (c - 1) * (2 * t + 1); length = 2 * t + 1 }) (found (length D) w t c a b e f _ refl g) in
+      let x = part-end c w (2 * t + 1) f g in
+      (v, ap length v ∙ length-take-le (2 * t + 1) (drop ((c - 1) * (2 * t + 1)) D) (omega (arith, x, e, length-drop ((c - 1) * (2 * t + 1)) D)))
+
+pub shows : (D : List ℕ) (w t c : ℕ) → Shows D w t c
+shows D w t c = record { none = none D w t c; shown = shown D w t c }

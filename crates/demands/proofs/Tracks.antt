@@ -1,0 +1,138 @@
+-- The third demand is met, whole. Assumes nothing.
+use Prim.Native.Nat.{ℕ, zero, suc, _≤_}
+use mathlib.Core.Path.{_≡_, refl, sym, _∙_, ap, subst}
+use mathlib.Core.Logic.{_≢_, _↔_, ⊎-elim}
+use mathlib.Core.Bool.{Bool, true, false}
+use mathlib.Core.List.{List}
+use native.Mathlib.Omega.{arith}
+use lib.Dec.{ltb}
+use lib.ListN.{length}
+use Rattle.grid.specs.Channel.{bit, count, pins, density, twoPin, tracks, rowsRefused}
+use Rattle.grid.specs.Refusals.{firstRefusal}
+use Rattle.grid.specs.Answers as counting
+use Rattle.grid.proofs.Tests.{eq-eqb, le-ltb}
+use Rattle.grid.proofs.Counting.{sum-zero}
+use Rattle.grid.proofs.Rows.{RowsFit, rows-fit, rows-more, two-fit}
+use Rattle.grid.proofs.Answers.{check-number, check-figures, density-figure, accepted-new}
+use Rattle.grid.proofs.Drawings.Bound.{density-le}
+use Rattle.sweep.specs.declared.Figures.{Figures}
+use Rattle.sweep.specs.Answers as routing
+use Rattle.sweep.proofs.Solved.{solved, two-density, many-density, added-two, added-many}
+use Rattle.sweep.proofs.Applied.{width-least}
+use Rattle.sweep.proofs.Answered.{need-entries, answer-number, answer-figures, written-refused, written-drawn}
+use Rattle.record.specs.Record.{topRow, bottomRow, recordRefused}
+use Rattle.listing.specs.Listing as listing
+use Rattle.listing.proofs.Records.{listed-number}
+use Rattle.demands.specs.Table.{LetsThrough, First, end, ofRecord, ofRows, ofLayout}
+use Rattle.demands.specs.Tracks.{PairsOnly, Drawn, Routes, Lists, ThirdDemand}
+use Rattle.demands.proofs.Table.{zero-just-if-let}
+use Rattle.demands.proofs.Lines.{rows-first, rows-numbered, layout-numbered, record-numbered, none-numbered}
+use Rattle.demands.proofs.Refusals.{route-first, list-first}
+
+-- two pins for each net, as the sweeps test it
+pairs-two : (top bottom : List ℕ) → PairsOnly top bottom → twoPin top bottom ≡ true
+unfolding twoPin count
+pairs-two top bottom p =
+    eq-eqb (count (λ v. ltb 2 (pins top bottom v)) 256) 0
+    (sum-zero (λ v. bit (ltb 2 (pins top bottom v))) 256 (λ v l.
+    ap bit (le-ltb 2 (pins top bottom (suc v))
+    (⊎-elim (λ (e : pins top bottom (suc v) ≡ 0). omega arith) (λ (e : pins top bottom (suc v) ≡ 2). omega arith) (p (suc v) (omega arith))))))
+
+-- a net of three pins or more, as the sweeps test it
+more-many : (top bottom : List ℕ) → RowsFit top bottom → (v : ℕ) → v ≢ 0 → 3 ≤ pins top bottom v → twoPin top bottom ≡ false
+more-many top bottom fit v n p = go (twoPin top bottom) refl
+  where
+    go : (b : Bool) → twoPin top bottom ≡ b → b ≡ false
+    go true e = absurd (omega (arith, two-fit top bottom fit e v (omega arith)))
+    go false e = refl
+
+-- A CHANNEL whose rows are accepted
+module _ (top bottom : List ℕ) (ok : rowsRefused top bottom 256 ≡ 0) where
+  fit : RowsFit top bottom
+  fit = rows-fit top bottom ok
+
+  -- the slice length that is stated
+  stated : routing.entriesOf (routing.need top bottom) ≡ routing.sliceLength top bottom
+  stated = need-entries top bottom ∙ accepted-new (rowsRefused top bottom 256) _ 0 ok
+
+  -- a slice of that length is let through
+  enough : LetsThrough (ofLayout top bottom (routing.entriesOf (routing.need top bottom)))
+  unfolding LetsThrough routing.sliceLength
+  enough = ((λ h. omega (arith, h, stated)), tt)
+
+  drawn : Drawn top bottom
+  unfolding routing.sliceLength
+  drawn =
+      record {
+        solution = solved top bottom ok;
+        pairs = λ p. two-density top bottom (pairs-two top bottom p);
+        fewest = λ p w t D s. omega (arith, two-density top bottom (pairs-two top bottom p), density-le top bottom w t D (fit .same) s);
+        more = λ v n p. many-density top bottom (more-many top bottom fit v n p);
+        wide = width-least top bottom ok;
+        addedPairs = λ p. added-two top bottom ok (pairs-two top bottom p);
+        addedMore = λ v n p. added-many top bottom ok (more-many top bottom fit v n p);
+        rowsDensity = λ most e.
+            ap (λ s. s .density) (check-figures top bottom most ∙ accepted-new (counting.refusedWithin top bottom most) _ counting.noSize (sym (check-number top bottom most) ∙ e));
+        countedDensity = density-figure top bottom ∙ accepted-new (rowsRefused top bottom 256) _ 0 ok;
+        stated = stated;
+        enough = enough;
+      }
+
+-- rows that the table lets through are accepted
+pub rows-accepted : (top bottom : List ℕ) → (rowsRefused top bottom 256 ≡ 0) ↔ LetsThrough (ofRows top bottom 256 end)
+rows-accepted top bottom =
+    zero-just-if-let (ofRows top bottom 256 end) (rows-numbered top bottom 256 end none-numbered) (rowsRefused top bottom 256) (rows-first top bottom 256 (omega arith))
+
+-- ROUTING
+routes : (top bottom : List ℕ) (most : ℕ) (old : List ℕ) → most ≤ 256 → Routes top bottom most old
+unfolding routing.figures
+routes top bottom most old m =
+    let lent = length old in
+    let n = answer-number top bottom most lent in
+    let figures : routing.numberOf (routing.answer top bottom most lent) ≡ 0 → routing.figuresOf (routing.answer top bottom most lent) ≡ routing.figures top bottom =
+    λ e. answer-figures top bottom most lent ∙ accepted-new (routing.refused top bottom most lent) _ routing.noFigures (sym n ∙ e) in
+    record {
+      exactly =
+          zero-just-if-let (ofRows top bottom most (ofLayout top bottom lent)) (rows-numbered top bottom most (ofLayout top bottom lent) (layout-numbered top bottom lent))
+          (routing.numberOf (routing.answer top bottom most lent))
+          (subst (λ (k : ℕ). First (ofRows top bottom k (ofLayout top bottom lent)) (routing.numberOf (routing.answer top bottom most lent))) (omega arith)
+          (route-first top bottom most lent));
+      reports = λ e. reported (figures e);
+      draws = λ e. written-drawn top bottom most old (sym n ∙ e);
+      keeps = λ k. written-refused top bottom most old (λ z. k (n ∙ z));
+    }
+  where
+    reported : {x : Figures} → x ≡ routing.figures top bottom
+        → (x .density ≡ routing.figures top bottom .density) × (x .tracks ≡ routing.figures top bottom .tracks) × (x .width ≡ routing.figures top bottom .width)
+    reported e = (ap (λ (y : Figures). y .density) e, ap (λ (y : Figures). y .tracks) e, ap (λ (y : Figures). y .width) e)
+
+-- THE LISTING
+-- a listing whose number is 0 has rows that are accepted
+rows-of : (s : List ℕ) → listing.numberOf (listing.listed s) ≡ 0 → rowsRefused (topRow s) (bottomRow s) 256 ≡ 0
+unfolding listing.refused
+rows-of s e = rows-more (topRow s) (bottomRow s) 64 256 (omega arith) (go (recordRefused s) (sym (listed-number s) ∙ e))
+  where
+    go : (k : ℕ) → firstRefusal k (rowsRefused (topRow s) (bottomRow s) 64) ≡ 0 → rowsRefused (topRow s) (bottomRow s) 64 ≡ 0
+    go zero z = z
+    go (suc k) z = absurd (omega (arith, z))
+
+lists : (s : List ℕ) → Lists s
+unfolding listing.textOf
+lists s =
+    record {
+      exactly =
+          zero-just-if-let (ofRecord s (ofRows (topRow s) (bottomRow s) 64 end))
+          (record-numbered s (ofRows (topRow s) (bottomRow s) 64 end) (rows-numbered (topRow s) (bottomRow s) 64 end none-numbered))
+          (listing.numberOf (listing.listed s)) (list-first s);
+      text = refl;
+      reports = λ e. drawn (topRow s) (bottomRow s) (rows-of s e);
+    }
+
+-- THE THIRD DEMAND
+pub third-demand : ThirdDemand
+third-demand =
+    record {
+      drawn = λ top bottom l. drawn top bottom (rows-accepted top bottom .1 l);
+      routes = routes;
+      lists = lists;
+    }

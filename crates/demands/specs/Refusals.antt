@@ -1,0 +1,55 @@
+-- The first demand: every call takes all numbers and lengths, stops, and refuses with the first number of the table that applies. That each call stops and
+-- answers by these definitions, for all arguments, is its own promise.
+use Prim.Native.Nat.{ℕ, _≤_, min}
+use mathlib.Core.Path.{_≡_}
+use mathlib.Core.Logic.{_≢_}
+use mathlib.Core.List.{List}
+use lib.ListN.{length}
+use Rattle.grid.specs.Answers as counting
+use Rattle.sweep.specs.Answers as routing
+use Rattle.checker.specs.Check as checking
+use Rattle.report.specs.declared.NetRecord.{NetRecord}
+use Rattle.report.specs.Report as reporting
+use Rattle.record.specs.Record as reading
+use Rattle.record.specs.Record.{topRow, bottomRow}
+use Rattle.listing.specs.Listing as listing
+use Rattle.checker.specs.Faults.{Strange, PinWrong, LeavesLast, Split}
+use Rattle.demands.specs.Table.{First, end, ofRecord, ofRows, ofLayout, ofNetTable, ofDrawing, Least}
+
+-- THE FIRST NUMBER THAT APPLIES, call by call: of the calls on rows, `most` a limit of columns and `lent` the length of a slice
+pub record Refuses (top bottom : List ℕ) : Type 0 where
+  -- the row check, and the net facts, which answer alike
+  pub rows : (most : ℕ) → First (ofRows top bottom (min most 256) end) (counting.numberOf (counting.rowCheck top bottom most))
+  pub density : First (ofRows top bottom 256 end) (counting.countNumber (counting.densityCount top bottom))
+  pub need : First (ofRows top bottom 256 end) (routing.lengthNumberOf (routing.need top bottom))
+  pub route : (most lent : ℕ) → First (ofRows top bottom (min most 256) (ofLayout top bottom lent)) (routing.numberOf (routing.answer top bottom most lent))
+  pub check :
+      (w t : ℕ) (D : List ℕ) → First (ofRows top bottom 256 (ofDrawing top bottom w t D)) (checking.numberOf (checking.checked top bottom w t D))
+  pub report : (table : List NetRecord) → First (ofRows top bottom 256 (ofNetTable (length table))) (reporting.numberOf (reporting.reported top bottom table))
+
+-- of the calls on a record's bytes
+pub record RefusesRecord (s : List ℕ) : Type 0 where
+  pub read : First (ofRecord s end) (reading.number (reading.recordRead s))
+  pub list : First (ofRecord s (ofRows (topRow s) (bottomRow s) 64 end)) (listing.numberOf (listing.listed s))
+
+-- "A refusal returns its number and zeros for density, tracks, width, slice length and every other figure but the place."
+pub record Zeros (top bottom : List ℕ) : Type 0 where
+  pub rows : (most : ℕ) → counting.numberOf (counting.rowCheck top bottom most) ≢ 0 → counting.sizeOf (counting.rowCheck top bottom most) ≡ counting.noSize
+  pub density : counting.countNumber (counting.densityCount top bottom) ≢ 0 → counting.countDensity (counting.densityCount top bottom) ≡ 0
+  pub need : routing.lengthNumberOf (routing.need top bottom) ≢ 0 → routing.entriesOf (routing.need top bottom) ≡ 0
+  pub route :
+      (most lent : ℕ) → routing.numberOf (routing.answer top bottom most lent) ≢ 0 → routing.figuresOf (routing.answer top bottom most lent) ≡ routing.noFigures
+
+pub record ZerosRecord (s : List ℕ) : Type 0 where
+  pub read : reading.number (reading.recordRead s) ≢ 0 → reading.columns (reading.recordRead s) ≡ 0
+  pub list : listing.numberOf (listing.listed s) ≢ 0 → listing.lengthOf (listing.listed s) ≡ 0
+
+-- "For 13 to 15 the checker adds the lowest entry position, from 0; for 16 the lowest net number; its place is 0 otherwise."
+pub record Places (top bottom : List ℕ) (w t : ℕ) (D : List ℕ) : Type 0 where
+  pub strange :
+      checking.numberOf (checking.checked top bottom w t D) ≡ 13 → Least (Strange top bottom D) (checking.placeOf (checking.checked top bottom w t D))
+  pub pin :
+      checking.numberOf (checking.checked top bottom w t D) ≡ 14 → Least (PinWrong top bottom w t D) (checking.placeOf (checking.checked top bottom w t D))
+  pub last : checking.numberOf (checking.checked top bottom w t D) ≡ 15 → Least (LeavesLast w t D) (checking.placeOf (checking.checked top bottom w t D))
+  pub split : checking.numberOf (checking.checked top bottom w t D) ≡ 16 → Least (Split t D) (checking.placeOf (checking.checked top bottom w t D))
+  pub other : checking.numberOf (checking.checked top bottom w t D) ≤ 12 → checking.placeOf (checking.checked top bottom w t D) ≡ 0

@@ -1,0 +1,55 @@
+-- The first demand, of the lent slices: after a refused call each is as it was; after an accepted one the drawing stands in the first entries and the old
+-- contents behind it. Each call's promise gives the final contents of what it is lent by the definitions named here.
+use Prim.Native.Nat.{ℕ, _+_, _*_, _-_, _<_}
+use mathlib.Core.Path.{_≡_}
+use mathlib.Core.Logic.{_≢_, _⊎_}
+use mathlib.Core.List.{List, [], _++_}
+use lib.ListN.{length, drop}
+use Rattle.grid.specs.Refusals.{ifAccepted}
+use Rattle.grid.specs.Answers as counting
+use Rattle.grid.specs.Grid.{columnOf}
+use Rattle.grid.specs.View.{columnView}
+use Rattle.sweep.specs.Drawing.{layout}
+use Rattle.sweep.specs.Answers as routing
+use Rattle.report.specs.declared.NetRecord.{NetRecord}
+use Rattle.report.specs.Report as reporting
+use Rattle.record.specs.Record as reading
+use Rattle.record.specs.Record.{topRow, bottomRow, laid}
+use Rattle.listing.specs.Listing as listing
+
+-- WHAT THE CALLS ON ROWS LEAVE
+pub record Leaves (top bottom : List ℕ) : Type 0 where
+  -- "A refused call writes to no lent slice or table": routing, the net report, and the net facts, whose three tables are `ifAccepted` by their number
+  pub routeRefused : (most : ℕ) (old : List ℕ) → routing.numberOf (routing.answer top bottom most (length old)) ≢ 0 → routing.written top bottom most old ≡ old
+  pub reportRefused : (old : List NetRecord) → reporting.numberOf (reporting.reported top bottom old) ≢ 0 → reporting.tableAfter top bottom old ≡ old
+  pub factsRefused : (most : ℕ) (new old : List ℕ) → counting.numberOf (counting.rowCheck top bottom most) ≢ 0
+      → ifAccepted (counting.numberOf (counting.rowCheck top bottom most)) new old ≡ old
+  -- an accepted one writes the drawing, the 256 records, or the tables, and keeps what stands behind
+  pub routeDrawn : (most : ℕ) (old : List ℕ) → routing.numberOf (routing.answer top bottom most (length old)) ≡ 0
+      → routing.written top bottom most old ≡ layout top bottom ++ drop (length (layout top bottom)) old
+  pub reportFilled : (old : List NetRecord) → reporting.numberOf (reporting.reported top bottom old) ≡ 0
+      → reporting.tableAfter top bottom old ≡ reporting.records top bottom ++ drop 256 old
+  pub factsFilled : (most : ℕ) (new old : List ℕ) → counting.numberOf (counting.rowCheck top bottom most) ≡ 0
+      → ifAccepted (counting.numberOf (counting.rowCheck top bottom most)) new old ≡ new
+
+-- WHAT THE CALLS ON A RECORD LEAVE, of rows and a text that held `old`
+pub record LeavesRecord (s : List ℕ) : Type 0 where
+  pub rowsRefused : (old : List ℕ) → reading.number (reading.recordRead s) ≢ 0
+      → (ifAccepted (reading.number (reading.recordRead s)) (laid (topRow s) old) old ≡ old)
+      × (ifAccepted (reading.number (reading.recordRead s)) (laid (bottomRow s) old) old ≡ old)
+  pub rowsRead : (old : List ℕ) → reading.number (reading.recordRead s) ≡ 0
+      → (ifAccepted (reading.number (reading.recordRead s)) (laid (topRow s) old) old ≡ topRow s ++ drop (length (topRow s)) old)
+      × (ifAccepted (reading.number (reading.recordRead s)) (laid (bottomRow s) old) old ≡ bottomRow s ++ drop (length (bottomRow s)) old)
+  pub textRefused : (old : List ℕ) → listing.numberOf (listing.listed s) ≢ 0
+      → ifAccepted (listing.numberOf (listing.listed s)) (laid (listing.textOf s) old) old ≡ old
+  pub textListed : (old : List ℕ) → listing.numberOf (listing.listed s) ≡ 0
+      → ifAccepted (listing.numberOf (listing.listed s)) (laid (listing.textOf s) old) old ≡ listing.textOf s ++ drop (length (listing.textOf s)) old
+
+-- ONE COLUMN'S ENTRIES. "an empty part if w or t is over 511, the length is not w × (2t + 1), or the column is not 1 to w"
+abbrev pub NoColumn : (D : List ℕ) (w t c : ℕ) → Type 0
+NoColumn D w t c = (511 < w) ⊎ ((511 < t) ⊎ ((length D ≢ w * (2 * t + 1)) ⊎ ((c < 1) ⊎ (w < c))))
+
+-- "One column's entries are handed back as that part of the caller's layout slice"
+pub record Shows (D : List ℕ) (w t c : ℕ) : Type 0 where
+  pub none : NoColumn D w t c → columnView D w t c ≡ []
+  pub shown : (NoColumn D w t c → ⊥) → (columnView D w t c ≡ columnOf D t (c - 1)) × (length (columnView D w t c) ≡ 2 * t + 1)

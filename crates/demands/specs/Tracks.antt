@@ -1,0 +1,64 @@
+-- The third demand, whole: "a single claim about the whole list of columns and about all solutions of the channel".
+use Prim.Native.Nat.{ℕ, _+_, _*_, _-_, _/_, _≤_}
+use mathlib.Core.Path.{_≡_}
+use mathlib.Core.Logic.{_≢_, _⊎_, _↔_}
+use mathlib.Core.List.{List, _++_}
+use lib.ListN.{length, drop}
+use Rattle.grid.specs.Channel.{pins, density, tracks}
+use Rattle.grid.specs.Grid.{Solution}
+use Rattle.grid.specs.Answers as counting
+use Rattle.sweep.specs.Drawing.{width, layout}
+use Rattle.sweep.specs.Answers as routing
+use Rattle.record.specs.Record.{topRow, bottomRow}
+use Rattle.listing.specs.Text.{drawn}
+use Rattle.listing.specs.Listing as listing
+use Rattle.demands.specs.Table.{LetsThrough, end, ofRecord, ofRows, ofLayout}
+
+-- each net has two pins
+abbrev pub PairsOnly : (top bottom : List ℕ) → Type 0
+PairsOnly top bottom = (v : ℕ) → v ≢ 0 → (pins top bottom v ≡ 0) ⊎ (pins top bottom v ≡ 2)
+
+-- A CHANNEL whose rows the table lets through
+pub record Drawn (top bottom : List ℕ) : Type 0 where
+  -- the drawing is a solution with the tracks and the width reported
+  pub solution : Solution top bottom (width top bottom) (tracks top bottom) (layout top bottom)
+  -- with two-pin nets only the drawing has d tracks, and no solution of any width, whoever made it, has fewer
+  pub pairs : PairsOnly top bottom → tracks top bottom ≡ density top bottom
+  pub fewest : PairsOnly top bottom → (w t : ℕ) (D : List ℕ) → Solution top bottom w t D → tracks top bottom ≤ t
+  -- "else 2d - 1": with a net of three or more pins
+  pub more : (v : ℕ) → v ≢ 0 → 3 ≤ pins top bottom v → tracks top bottom ≡ 2 * density top bottom - 1
+  -- n columns, and added ones: "At most d/2, rounded down", with two-pin nets only; else "at most d - 1"
+  pub wide : length top ≤ width top bottom
+  pub addedPairs : PairsOnly top bottom → width top bottom ≤ length top + density top bottom / 2
+  pub addedMore : (v : ℕ) → v ≢ 0 → 3 ≤ pins top bottom v → width top bottom ≤ length top + (density top bottom - 1)
+  -- the densities reported are the d of the definition: the row check's and the density call's
+  pub rowsDensity : (most : ℕ) → counting.numberOf (counting.rowCheck top bottom most) ≡ 0 → counting.sizeOf (counting.rowCheck top bottom most) .density ≡ density top bottom
+  pub countedDensity : counting.countDensity (counting.densityCount top bottom) ≡ density top bottom
+  -- the slice length stated is "(n + t/2 rounded down) × (2t + 1)", and a slice of that length is let through
+  pub stated : routing.entriesOf (routing.need top bottom) ≡ (length top + tracks top bottom / 2) * (2 * tracks top bottom + 1)
+  pub enough : LetsThrough (ofLayout top bottom (routing.entriesOf (routing.need top bottom)))
+
+-- ROUTING, with a limit of columns `most` up to 256 (256; 64 in `knee`) and a slice that held `old`: it draws exactly when the table lets the call through
+pub record Routes (top bottom : List ℕ) (most : ℕ) (old : List ℕ) : Type 0 where
+  pub exactly : (routing.numberOf (routing.answer top bottom most (length old)) ≡ 0) ↔ LetsThrough (ofRows top bottom most (ofLayout top bottom (length old)))
+  -- then it reports the density, tracks and width of the channel, and leaves the drawing in front of the old contents
+  pub reports : routing.numberOf (routing.answer top bottom most (length old)) ≡ 0
+      → (routing.figuresOf (routing.answer top bottom most (length old)) .density ≡ density top bottom)
+      × (routing.figuresOf (routing.answer top bottom most (length old)) .tracks ≡ tracks top bottom)
+      × (routing.figuresOf (routing.answer top bottom most (length old)) .width ≡ width top bottom)
+  pub draws : routing.numberOf (routing.answer top bottom most (length old)) ≡ 0
+      → routing.written top bottom most old ≡ layout top bottom ++ drop (length (layout top bottom)) old
+  pub keeps : routing.numberOf (routing.answer top bottom most (length old)) ≢ 0 → routing.written top bottom most old ≡ old
+
+-- THE LISTING of a record: it lists exactly when the table lets the call through, and then the channel's figures and the columns of its drawing
+pub record Lists (s : List ℕ) : Type 0 where
+  pub exactly : (listing.numberOf (listing.listed s) ≡ 0) ↔ LetsThrough (ofRecord s (ofRows (topRow s) (bottomRow s) 64 end))
+  pub text : listing.textOf s
+      ≡ drawn (density (topRow s) (bottomRow s)) (tracks (topRow s) (bottomRow s)) (width (topRow s) (bottomRow s)) (layout (topRow s) (bottomRow s))
+  pub reports : listing.numberOf (listing.listed s) ≡ 0 → Drawn (topRow s) (bottomRow s)
+
+-- THE THIRD DEMAND
+pub record ThirdDemand : Type 0 where
+  pub drawn : (top bottom : List ℕ) → LetsThrough (ofRows top bottom 256 end) → Drawn top bottom
+  pub routes : (top bottom : List ℕ) (most : ℕ) (old : List ℕ) → most ≤ 256 → Routes top bottom most old
+  pub lists : (s : List ℕ) → Lists s
