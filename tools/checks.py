@@ -1,7 +1,7 @@
 #!/usr/bin/env python3
-"""The cases of the program `checks`: its standard input and the answers expected of it.
+"""The cases of the program `check_cases`: its standard input and the answers expected of it.
 
-  checks.py                             makes crates/checks/stdin and crates/checks/stdout
+  checks.py                             makes crates/check_cases/stdin and crates/check_cases/stdout
   checks.py --large SHAPE N STDIN       one drawing of N columns and N tracks, SHAPE one of spiral, zigzag, comb, ladders; the answer goes to standard output
 
 The cases are those of tools/cases/checks.txt, which the customer worked, with their answers, and some that are made here. A case in text is five lines,
@@ -204,8 +204,8 @@ def main(arguments):
         print('%d %d' % check(top, bottom, d.w, d.t, d.layout))
     elif not arguments:
         cases, answers = stored()
-        (ROOT / 'crates/checks/stdin').write_bytes(cases)
-        (ROOT / 'crates/checks/stdout').write_bytes(answers.encode())
+        (ROOT / 'crates/check_cases/stdin').write_bytes(cases)
+        (ROOT / 'crates/check_cases/stdout').write_bytes(answers.encode())
     else:
         sys.exit(__doc__)
 

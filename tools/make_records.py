@@ -1,7 +1,7 @@
 #!/usr/bin/env python3
 """Records to try and the listings they must give.
 
-    make_records.py                        make crates/listings/stdin and crates/listings/stdout
+    make_records.py                        make crates/listing_cases/stdin and crates/listing_cases/stdout
     make_records.py STREAM TEXT [COUNT]    write the records and the text expected for them
 
 STREAM is one record after another, each after a two-byte count of its bytes, little-endian;
@@ -174,5 +174,5 @@ def main(stream, text, count=COUNT):
 if __name__ == "__main__":
     if len(sys.argv) not in (1, 3, 4):
         sys.exit(__doc__)
-    folder = pathlib.Path(__file__).resolve().parent.parent / "crates" / "listings"
+    folder = pathlib.Path(__file__).resolve().parent.parent / "crates" / "listing_cases"
     main(*(sys.argv[1:] or (folder / "stdin", folder / "stdout")))

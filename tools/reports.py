@@ -1,5 +1,5 @@
 #!/usr/bin/env python3
-"""Makes crates/reports/stdin and crates/reports/stdout, the channels and their net reports, from document 01 alone."""
+"""Makes crates/report_cases/stdin and crates/report_cases/stdout, the channels and their net reports, from document 01 alone."""
 import pathlib
 import random
 
@@ -97,4 +97,4 @@ def stored():
 
 if __name__ == '__main__':
     for name, text in zip(('stdin', 'stdout'), stored()):
-        (ROOT / 'crates/reports' / name).write_bytes(text.encode())
+        (ROOT / 'crates/report_cases' / name).write_bytes(text.encode())

@@ -71,18 +71,18 @@ class Stored(unittest.TestCase):
     def test_knee(self):
         self.held("knee", (CASE_D, LISTING_D))
 
-    def test_listings(self):
-        self.held("listings", make_records.stored())
+    def test_listing_cases(self):
+        self.held("listing_cases", make_records.stored())
 
-    def test_reports(self):
-        self.held("reports", reports.stored())
+    def test_report_cases(self):
+        self.held("report_cases", reports.stored())
 
-    def test_checks(self):
+    def test_check_cases(self):
         self.assertEqual((len(list(checks.worked())), len(list(checks.made()))), (400, 18))
-        self.held("checks", checks.stored())
+        self.held("check_cases", checks.stored())
 
     def test_no_program_without_a_maker(self):
-        self.assertEqual({path.parent.name for path in CRATES.glob("*/stdout")}, {"knee", "listings", "reports", "checks"})
+        self.assertEqual({path.parent.name for path in CRATES.glob("*/stdout")}, {"knee", "listing_cases", "report_cases", "check_cases"})
 
 
 class Draw(unittest.TestCase):

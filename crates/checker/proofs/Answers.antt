@@ -1,14 +1,13 @@
 -- The checker's answer at each way out of the code, its number and its place.
 use Prim.Native.Nat.{ℕ, zero, suc, _+_, _*_, _≤_, _<_}
 use mathlib.Core.Path.{_≡_, refl, sym, _∙_, ap}
-use mathlib.Core.Logic.{_≢_, ⊎-elim, by-cases}
+use mathlib.Core.Logic.{_≢_, ⊎-elim, by-cases, _⊎_, inl}
 use mathlib.Core.Bool.{Bool, true, false, not, _||_}
 use mathlib.Core.List.{List}
 use lib.ListN.{length, getD, List·getD-eq-default}
 use lib.Dec.{eqb, ltb}
 use native.Mathlib.Omega.{arith}
 use native.Mathlib.Decide.{decLe, decLt}
-use native.Mathlib.Nat.{mul-le-mul-right}
 use Rattle.grid.specs.declared.RowCheck.{RowCheck}
 use Rattle.grid.specs.declared.RowCheck.the-variants.{Fit, Refused}
 use Rattle.grid.specs.declared.Size.{Size}
@@ -24,17 +23,13 @@ use Rattle.grid.proofs.Answers.{check-number, told, accepted-new}
 use Rattle.grid.proofs.Answers as answers
 use Rattle.checker.specs.declared.Checked.{Checked}
 use Rattle.checker.specs.declared.Checked.the-variants.{Passed}
-use Rattle.checker.specs.Check.{numberOf, placeOf, checkedBy, lowest, some, strange, mispinned, leavesLast, split}
+use Rattle.checker.specs.Check.{numberOf, placeOf, checkedBy, least, some, strange, mispinned, leavesLast, split}
 use Rattle.checker.specs.Check.{entriesRefused, drawingRefused, refused, place, checked}
-use Rattle.checker.specs.Working.{refusal, answer, entriesChecked, drawingChecked}
-use Rattle.checker.specs.Entries.{Known}
-use Rattle.checker.specs.Strands.{Drawn}
-use Rattle.checker.proofs.Lowest.{lowest-all}
+use Rattle.checker.specs.Working.{refusedAt, answerWith, entriesChecked, drawingChecked}
+use Rattle.checker.specs.Working.{PinTable}
+use Rattle.checker.specs.Working.{Within}
+use Rattle.checker.proofs.Least.{least-all}
 use Rattle.checker.proofs.entries.Nets.{strange-not}
-
--- the number of entries fits
-pub product-small : (w t : ℕ) → w ≤ 511 → t ≤ 511 → w * (2 * t + 1) ≤ 1000000
-product-small w t a b = omega (arith, mul-le-mul-right (2 * t + 1) a)
 
 -- the number and the place of an answer made of them, where the place is 0 on acceptance
 made-of : (k p : ℕ) → (k ≡ 0 → p ≡ 0) → (numberOf (checkedBy k p) ≡ k) × (placeOf (checkedBy k p) ≡ p)
@@ -43,9 +38,18 @@ made-of (suc k) p z = (refl, refl)
 
 module _ (top bottom : List ℕ) (w t : ℕ) (D : List ℕ) where
   -- only 13 to 16 have a place
-  pub place-low : (k : ℕ) → k ≤ 12 → place top bottom w t D k ≡ 0
+  pub no-place-else : (k : ℕ) → (k < 13) ⊎ (16 < k) → place top bottom w t D k ≡ 0
   unfolding place
-  place-low k l = rw (ne-eqb k 13 (omega arith), ne-eqb k 14 (omega arith), ne-eqb k 15 (omega arith), ne-eqb k 16 (omega arith))
+  no-place-else k o =
+      rw (
+        ne-eqb k 13 (apart 13 (omega arith) (omega arith)),
+        ne-eqb k 14 (apart 14 (omega arith) (omega arith)),
+        ne-eqb k 15 (apart 15 (omega arith) (omega arith)),
+        ne-eqb k 16 (apart 16 (omega arith) (omega arith)),
+      )
+    where
+      apart : (j : ℕ) → 13 ≤ j → j ≤ 16 → k ≢ j
+      apart j a b e = ⊎-elim (λ (l : k < 13). omega (arith, e)) (λ (l : 16 < k). omega (arith, e)) o
 
   -- the number and the place of the checker's answer
   pub check-parts :
@@ -54,7 +58,7 @@ module _ (top bottom : List ℕ) (w t : ℕ) (D : List ℕ) where
   unfolding checked
   check-parts =
       made-of (refused top bottom w t D) (place top bottom w t D (refused top bottom w t D))
-      (λ e. place-low (refused top bottom w t D) (omega arith))
+      (λ e. no-place-else (refused top bottom w t D) (inl (omega arith)))
 
   -- what the checker promises of them
   pub check-promise : (r : Checked) → r ≡ checked top bottom w t D
@@ -64,33 +68,33 @@ module _ (top bottom : List ℕ) (w t : ℕ) (D : List ℕ) where
       (e, (n, ap placeOf e ∙ check-parts .1 ∙ ap (λ (k : ℕ). place top bottom w t D k) (sym n)))
 
   -- one number, one answer
-  same-answer : (k n : ℕ) (r : Checked) → n ≡ k → r ≡ answer top bottom w t D k → r ≡ answer top bottom w t D n
-  same-answer k n r e is = is ∙ ap (λ (k : ℕ). answer top bottom w t D k) (sym e)
+  same-answer : (k n : ℕ) (r : Checked) → n ≡ k → r ≡ answerWith top bottom w t D k → r ≡ answerWith top bottom w t D n
+  same-answer k n r e is = is ∙ ap (λ (k : ℕ). answerWith top bottom w t D k) (sym e)
 
   -- a refusal with the place of its number
-  at-place : (k n p : ℕ) (r : Checked) → n ≡ suc k → p ≡ place top bottom w t D (suc k) → r ≡ refusal (suc k) p → r ≡ answer top bottom w t D n
-  at-place k n p r e q is = same-answer (suc k) n r e (is ∙ ap (λ (p : ℕ). refusal (suc k) p) q)
+  at-place : (k n p : ℕ) (r : Checked) → n ≡ suc k → p ≡ place top bottom w t D (suc k) → r ≡ refusedAt (suc k) p → r ≡ answerWith top bottom w t D n
+  at-place k n p r e q is = same-answer (suc k) n r e (is ∙ ap (λ (p : ℕ). refusedAt (suc k) p) q)
 
   -- one with the place 0
-  no-place : (k n : ℕ) (r : Checked) → k ≤ 11 → n ≡ suc k → r ≡ refusal (suc k) 0 → r ≡ answer top bottom w t D n
-  no-place k n r l e is = at-place k n 0 r e (sym (place-low (suc k) (omega arith))) is
+  no-place : (k n : ℕ) (r : Checked) → k ≤ 11 → n ≡ suc k → r ≡ refusedAt (suc k) 0 → r ≡ answerWith top bottom w t D n
+  no-place k n r l e is = at-place k n 0 r e (sym (no-place-else (suc k) (inl (omega arith)))) is
 
 module _ (top bottom : List ℕ) (w t : ℕ) (D : List ℕ) (r : Checked) where
   -- 10: too narrow
-  pub narrow : w < length top → r ≡ refusal 10 0 → r ≡ drawingChecked top bottom w t D
+  pub narrow : w < length top → r ≡ refusedAt 10 0 → r ≡ drawingChecked top bottom w t D
   unfolding drawingRefused
   narrow l is = no-place top bottom w t D 9 (drawingRefused top bottom w t D) r (omega arith) (rw (lt-ltb w (length top) l)) is
 
   module _ (a : length top ≤ w) where
     -- 10: too wide
-    pub too-wide : 511 < w → r ≡ refusal 10 0 → r ≡ drawingChecked top bottom w t D
+    pub too-wide : 511 < w → r ≡ refusedAt 10 0 → r ≡ drawingChecked top bottom w t D
     unfolding drawingRefused
     too-wide l is =
         no-place top bottom w t D 9 (drawingRefused top bottom w t D) r (omega arith) (rw (le-ltb w (length top) a, lt-ltb 511 w l)) is
 
     module _ (b : w ≤ 511) where
       -- 11
-      pub too-high : 511 < t → r ≡ refusal 11 0 → r ≡ drawingChecked top bottom w t D
+      pub too-high : 511 < t → r ≡ refusedAt 11 0 → r ≡ drawingChecked top bottom w t D
       unfolding drawingRefused
       too-high l is =
           no-place top bottom w t D 10 (drawingRefused top bottom w t D) r (omega arith)
@@ -98,7 +102,7 @@ module _ (top bottom : List ℕ) (w t : ℕ) (D : List ℕ) (r : Checked) where
 
       module _ (c : t ≤ 511) where
         -- 12
-        pub wrong-size : length D ≢ w * (2 * t + 1) → r ≡ refusal 12 0 → r ≡ drawingChecked top bottom w t D
+        pub wrong-size : length D ≢ w * (2 * t + 1) → r ≡ refusedAt 12 0 → r ≡ drawingChecked top bottom w t D
         unfolding drawingRefused
         wrong-size n is =
             no-place top bottom w t D 11 (drawingRefused top bottom w t D) r (omega arith)
@@ -112,24 +116,24 @@ module _ (top bottom : List ℕ) (w t : ℕ) (D : List ℕ) (r : Checked) where
             (rw (le-ltb w (length top) a, le-ltb 511 w b, le-ltb 511 t c, eq-eqb (length D) (w * (2 * t + 1)) d)) is
 
 -- a search that found number p below n
-some-found : (n : ℕ) (P : ℕ → Bool) (p : ℕ) → p ≡ lowest n P → p < n → some n P ≡ true
-some-found n P p e l = lt-ltb (lowest n P) n (omega arith)
+some-found : (n : ℕ) (P : ℕ → Bool) (p : ℕ) → p ≡ least n P → p < n → some n P ≡ true
+some-found n P p e l = lt-ltb (least n P) n (omega arith)
 
 -- and one that found none
-none-found : (n : ℕ) (P : ℕ → Bool) (p : ℕ) → p ≡ lowest n P → n ≤ p → some n P ≡ false
-none-found n P p e l = le-ltb (lowest n P) n (omega arith)
+none-found : (n : ℕ) (P : ℕ → Bool) (p : ℕ) → p ≡ least n P → n ≤ p → some n P ≡ false
+none-found n P p e l = le-ltb (least n P) n (omega arith)
 
-module _ (top bottom : List ℕ) (w t : ℕ) (D : List ℕ) (e : ℕ) (x : e ≡ lowest (length D) (strange top bottom D)) where
+module _ (top bottom : List ℕ) (w t : ℕ) (D : List ℕ) (e : ℕ) (x : e ≡ least (length D) (strange top bottom D)) where
   -- 13
-  pub entry-at : (r : Checked) → e < length D → r ≡ refusal 13 e → r ≡ entriesChecked top bottom w t D
+  pub entry-at : (r : Checked) → e < length D → r ≡ refusedAt 13 e → r ≡ entriesChecked top bottom w t D
   unfolding entriesRefused place
   entry-at r l is =
       at-place top bottom w t D 12 (entriesRefused top bottom w t D) e r (rw (some-found (length D) (strange top bottom D) e x l)) x is
 
   module _ (e′ : length D ≤ e) where
     -- the entries are nets, so they are at most 256
-    pub drawn : (table : List ℕ) → Known top bottom table → length D ≡ w * (2 * t + 1) → w ≤ 511 → t ≤ 511 → Drawn D w t
-    drawn table K d b c = record { size = d; wide = b; high = c; nets = small }
+    pub within : (table : List ℕ) → PinTable top bottom table → length D ≡ w * (2 * t + 1) → w ≤ 511 → t ≤ 511 → Within D w t
+    within table K d b c = record { size = d; wide = b; high = c; nets = small }
       where
         small : (i : ℕ) → getD D i 0 ≤ 256
         small i =
@@ -139,42 +143,42 @@ module _ (top bottom : List ℕ) (w t : ℕ) (D : List ℕ) (e : ℕ) (x : e ≡
             (λ k.
             ⊎-elim (λ (z : getD D i 0 ≡ 0). omega arith)
             (λ (z : 0 < pins top bottom (getD D i 0)). omega (arith, K .none (getD D i 0) (omega arith)))
-            (strange-not top bottom D i (lowest-all (length D) (strange top bottom D) (omega arith) i l))))
+            (strange-not top bottom D i (least-all (length D) (strange top bottom D) (omega arith) i l))))
             (λ l. omega (arith, List·getD-eq-default D 0 {n = i} (omega arith)))
 
     -- past 13
     no-entry : some (length D) (strange top bottom D) ≡ false
     no-entry = none-found (length D) (strange top bottom D) e x e′
 
-    module _ (p : ℕ) (y : p ≡ lowest (length D) (mispinned top bottom t D)) where
+    module _ (p : ℕ) (y : p ≡ least (length D) (mispinned top bottom t D)) where
       -- 14
-      pub pin-at : (r : Checked) → p < length D → r ≡ refusal 14 p → r ≡ entriesChecked top bottom w t D
+      pub pin-at : (r : Checked) → p < length D → r ≡ refusedAt 14 p → r ≡ entriesChecked top bottom w t D
       unfolding entriesRefused place
       pin-at r l is =
           at-place top bottom w t D 13 (entriesRefused top bottom w t D) p r
           (rw (no-entry, some-found (length D) (mispinned top bottom t D) p y l)) y is
 
-      module _ (p′ : length D ≤ p) (q : ℕ) (z : q ≡ lowest (length D) (leavesLast w t D)) where
+      module _ (p′ : length D ≤ p) (q : ℕ) (z : q ≡ least (length D) (leavesLast w t D)) where
         -- past 14
         no-pin : some (length D) (mispinned top bottom t D) ≡ false
         no-pin = none-found (length D) (mispinned top bottom t D) p y p′
 
         -- 15
-        pub last-at : (r : Checked) → q < length D → r ≡ refusal 15 q → r ≡ entriesChecked top bottom w t D
+        pub last-at : (r : Checked) → q < length D → r ≡ refusedAt 15 q → r ≡ entriesChecked top bottom w t D
         unfolding entriesRefused place
         last-at r l is =
             at-place top bottom w t D 14 (entriesRefused top bottom w t D) q r
             (rw (no-entry, no-pin, some-found (length D) (leavesLast w t D) q z l)) z is
 
-        module _ (q′ : length D ≤ q) (n : ℕ) (s : n ≡ lowest 257 (split t D)) where
+        module _ (q′ : length D ≤ q) (n : ℕ) (s : n ≡ least 257 (split t D)) where
           -- past 15
           no-last : some (length D) (leavesLast w t D) ≡ false
           no-last = none-found (length D) (leavesLast w t D) q z q′
 
           -- 16
-          pub split-at : (r : Checked) → n < 257 → r ≡ refusal 16 n → r ≡ entriesChecked top bottom w t D
+          pub pieces-at : (r : Checked) → n < 257 → r ≡ refusedAt 16 n → r ≡ entriesChecked top bottom w t D
           unfolding entriesRefused place
-          split-at r l is =
+          pieces-at r l is =
               at-place top bottom w t D 15 (entriesRefused top bottom w t D) n r
               (rw (no-entry, no-pin, no-last, some-found 257 (split t D) n s l)) s is
 
@@ -206,18 +210,18 @@ first-here (suc k) m n = refl
 
 module _ (top bottom : List ℕ) where
   -- 4 to 7
-  pub rows-refused :
+  pub refused-checked :
       (w t : ℕ) (D : List ℕ) (r : Checked) (answered : RowCheck) (k j : ℕ)
-      → answered ≡ rowCheck top bottom 256 → answered ≡ Refused j → k ≡ rows.numberOf answered → r ≡ refusal k 0 → r ≡ checked top bottom w t D
+      → answered ≡ rowCheck top bottom 256 → answered ≡ Refused j → k ≡ rows.numberOf answered → r ≡ refusedAt k 0 → r ≡ checked top bottom w t D
   unfolding checked refused
-  rows-refused w t D r answered k j e f n is = go k (n ∙ ap rows.numberOf e ∙ check-number top bottom 256) is
+  refused-checked w t D r answered k j e f n is = go k (n ∙ ap rows.numberOf e ∙ check-number top bottom 256) is
     where
       not-zero : rowsRefused top bottom 256 ≢ 0
       not-zero = answers.refused top bottom 256 answered j e f
 
       go :
-          (k : ℕ) → k ≡ rowsRefused top bottom 256 → r ≡ refusal k 0
-          → r ≡ answer top bottom w t D (firstRefusal (rowsRefused top bottom 256) (drawingRefused top bottom w t D))
+          (k : ℕ) → k ≡ rowsRefused top bottom 256 → r ≡ refusedAt k 0
+          → r ≡ answerWith top bottom w t D (firstRefusal (rowsRefused top bottom 256) (drawingRefused top bottom w t D))
       go zero o i = absurd (not-zero (sym o))
       go (suc k) o i =
           no-place top bottom w t D k (firstRefusal (rowsRefused top bottom 256) (drawingRefused top bottom w t D)) r
@@ -230,20 +234,19 @@ module _ (top bottom : List ℕ) where
     accepted-rows = told top bottom 256 answered s e f .number
 
     -- accepted rows: the drawing is checked
-    pub rows-accepted : (w t : ℕ) (D : List ℕ) (r : Checked) → r ≡ drawingChecked top bottom w t D → r ≡ checked top bottom w t D
+    pub accepted-checked : (w t : ℕ) (D : List ℕ) (r : Checked) → r ≡ drawingChecked top bottom w t D → r ≡ checked top bottom w t D
     unfolding checked refused
-    rows-accepted w t D r is =
+    accepted-checked w t D r is =
         same-answer top bottom w t D (drawingRefused top bottom w t D) (firstRefusal (rowsRefused top bottom 256) (drawingRefused top bottom w t D)) r
         (ap (λ (k : ℕ). firstRefusal k (drawingRefused top bottom w t D)) accepted-rows) is
 
     -- with the table of their pins
-    pub known : (new old : List ℕ) → new ≡ ifAccepted (rows.numberOf answered) (table (pins top bottom)) old → Known top bottom new
+    pub known : (new old : List ℕ) → new ≡ ifAccepted (rows.numberOf answered) (table (pins top bottom)) old → PinTable top bottom new
     known new old o =
         let n : rows.numberOf answered ≡ 0 = ap rows.numberOf e ∙ check-number top bottom 256 ∙ accepted-rows in
         let x : new ≡ table (pins top bottom) = o ∙ accepted-new (rows.numberOf answered) (table (pins top bottom)) old n in
         rw x
         (record {
-          long = table-length (pins top bottom);
-          at = λ N n l. table-at (pins top bottom) N (omega arith) l;
+          figures = record { size = table-length (pins top bottom); at = table-at (pins top bottom) };
           none = rows-fit top bottom accepted-rows .small;
         })

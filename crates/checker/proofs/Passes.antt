@@ -1,31 +1,33 @@
--- The checker passes exactly the solutions: `passes`.
+-- The checker passes exactly the solutions: `passes-solutions`.
 use Prim.Native.Nat.{ℕ, zero, suc, _+_, _*_, _/_, _%_, _≤_, _<_}
 use mathlib.Core.Path.{_≡_, refl, sym, _∙_, ap}
 use mathlib.Core.Logic.{_≢_, _↔_, _⊎_, ⊎-elim, by-cases}
-use mathlib.Core.Bool.{Bool, true, false}
+use mathlib.Core.Bool.{Bool, false}
 use mathlib.Core.List.{List}
 use lib.ListN.{length, getD}
 use lib.Dec.{eqb, ltb}
 use native.Mathlib.Omega.{arith}
 use native.Mathlib.Decide.{decLe, decLt}
 use native.Mathlib.Nat.{mod-lt, div-add-mod', mul-le-mul-right}
-use Rattle.grid.specs.Channel.{pick, pins, rowsRefused}
+use Rattle.grid.specs.Channel.{pins, rowsRefused}
 use Rattle.grid.specs.Refusals.{firstRefusal}
 use Rattle.grid.specs.Grid.{OnePiece, verticalOf, horizontalOf, Solution}
-use Rattle.grid.proofs.Tests.{eq-eqb, eqb-true, eqb-false, le-ltb, ltb-false, not-true, not-false, or-false, pick-past}
+use Rattle.grid.proofs.Tests.{eq-eqb, eqb-true, le-ltb, ltb-false, not-false, or-false, pick-past}
 use Rattle.grid.proofs.Rows.{RowsFit, rows-fit}
-use Rattle.checker.specs.declared.Checked.{Checked}
 use Rattle.checker.specs.declared.Checked.the-variants.{Passed}
-use Rattle.checker.specs.Check.{numberOf, checkedBy, lowest, some, wrongWidth, manyTracks, wrongSize, strange, mispinned, leavesLast, split}
+use Rattle.checker.specs.Check.{numberOf, checkedBy, least, some, wrongWidth, manyTracks, wrongSize, strange, mispinned, leavesLast, split}
 use Rattle.checker.specs.Check.{entriesRefused, drawingRefused, refused, place, checked}
-use Rattle.checker.specs.Pieces.Edges.{vert-at, horz-at, horz-out, inside, netOf}
-use Rattle.checker.specs.Pieces.Exact.{Edge, edge, edge-of}
+use Rattle.pieces.specs.Labels.{netOf}
+use Rattle.grid.proofs.Drawings.Flat.{vert-at, horz-at, horz-out}
+use Rattle.pieces.proofs.Edges.{inside}
+use Rattle.pieces.proofs.Whole.{Edge, edge, edge-of}
 use Rattle.checker.proofs.Answers.{check-parts}
-use Rattle.checker.proofs.Lowest.{lowest-none, lowest-all}
+use Rattle.checker.proofs.Least.{least-none, least-all}
 use Rattle.checker.proofs.entries.Nets.{strange-not, not-strange}
-use Rattle.checker.proofs.entries.Pins.{pinned-at, at-pinned, column-below}
+use Rattle.checker.proofs.Limits.{column-below}
+use Rattle.checker.proofs.entries.Pins.{pinned-at, at-pinned}
 use Rattle.checker.proofs.entries.Last.{last-zero, zero-last}
-use Rattle.checker.proofs.pieces.Splits.{split-not, not-split}
+use Rattle.checker.proofs.counting.Splits.{split-not, not-split}
 
 -- no refusal of the table applies
 record Fine (top bottom : List ℕ) (w t : ℕ) (D : List ℕ) : Type 0 where
@@ -75,7 +77,7 @@ over-whole top bottom t D fit nets N l = record { linked = λ a b. absurd (no-ed
     no-edge : {x y : ℕ} → Edge D t N x y → ⊥
     no-edge (edge p a e) =
         let s = fit .small (getD D p 0) (omega arith) in
-        ⊎-elim (λ (z : getD D p 0 ≡ 0). omega arith) (λ (z : 0 < pins top bottom (getD D p 0)). omega arith) (nets p (inside D t p (omega arith)))
+        ⊎-elim (λ (z : getD D p 0 ≡ 0). omega arith) (λ (z : 0 < pins top bottom (getD D p 0)). omega arith) (nets p (inside D p (omega arith)))
 
 module _ (top bottom : List ℕ) (w t : ℕ) (D : List ℕ) where
   module _ (f : Fine top bottom w t D) where
@@ -86,7 +88,7 @@ module _ (top bottom : List ℕ) (w t : ℕ) (D : List ℕ) where
     nets-are : (p : ℕ) → p < length D → (getD D p 0 ≡ 0) ⊎ (0 < pins top bottom (getD D p 0))
     nets-are p l =
         strange-not top bottom D p
-        (lowest-all (length D) (strange top bottom D) (ltb-false (lowest (length D) (strange top bottom D)) (length D) (f .entry)) p l)
+        (least-all (length D) (strange top bottom D) (ltb-false (least (length D) (strange top bottom D)) (length D) (f .entry)) p l)
 
     -- the pins of column x are right
     pins-are :
@@ -94,7 +96,7 @@ module _ (top bottom : List ℕ) (w t : ℕ) (D : List ℕ) where
         → (i ≡ 0 → getD D (x * (2 * t + 1) + i) 0 ≡ getD bottom x 0) × (i ≡ t → getD D (x * (2 * t + 1) + i) 0 ≡ getD top x 0)
     pins-are x i l k =
         at-pinned top bottom t D (x * (2 * t + 1) + i) x i k refl
-        (lowest-all (length D) (mispinned top bottom t D) (ltb-false (lowest (length D) (mispinned top bottom t D)) (length D) (f .pin))
+        (least-all (length D) (mispinned top bottom t D) (ltb-false (least (length D) (mispinned top bottom t D)) (length D) (f .pin))
         (x * (2 * t + 1) + i) (omega (arith, size-is, mul-le-mul-right (2 * t + 1) l)))
 
     -- the last column has no horizontal edge
@@ -105,7 +107,7 @@ module _ (top bottom : List ℕ) (w t : ℕ) (D : List ℕ) where
         (λ l.
         horz-at D t x j l
         ∙ last-zero w t D x j e l
-        (lowest-all (length D) (leavesLast w t D) (ltb-false (lowest (length D) (leavesLast w t D)) (length D) (f .last))
+        (least-all (length D) (leavesLast w t D) (ltb-false (least (length D) (leavesLast w t D)) (length D) (f .last))
         (x * (2 * t + 1) + t + 1 + j) (omega (arith, size-is))))
         (λ l. horz-out D t x j (omega arith))
 
@@ -113,7 +115,7 @@ module _ (top bottom : List ℕ) (w t : ℕ) (D : List ℕ) where
     whole : (N : ℕ) → N ≢ 0 → OnePiece (verticalOf D t) (horizontalOf D t) N
     whole N n =
         by-cases (decLe N 256)
-        (λ l. split-not t D N n (lowest-all 257 (split t D) (ltb-false (lowest 257 (split t D)) 257 (f .piece)) N (omega arith)))
+        (λ l. split-not t D N n (least-all 257 (split t D) (ltb-false (least 257 (split t D)) 257 (f .piece)) N (omega arith)))
         (λ l. over-whole top bottom t D (rows-fit top bottom (f .rows)) nets-are N (omega arith))
 
     -- so the drawing is a solution within the limits
@@ -137,7 +139,7 @@ module _ (top bottom : List ℕ) (w t : ℕ) (D : List ℕ) where
   module _ (S : Solution top bottom w t D) where
     -- where no number below n passes a test the search finds none
     no-low : (n : ℕ) (P : ℕ → Bool) → ((k : ℕ) → k < n → P k ≡ false) → some n P ≡ false
-    no-low n P h = le-ltb (lowest n P) n (omega (arith, lowest-none n P h))
+    no-low n P h = le-ltb (least n P) n (omega (arith, least-none n P h))
 
     -- every position has the pins of its column
     all-pinned : (p : ℕ) → p < length D → mispinned top bottom t D p ≡ false
@@ -164,7 +166,7 @@ module _ (top bottom : List ℕ) (w t : ℕ) (D : List ℕ) where
     }
 
   -- the number is 0 precisely when the rows are accepted, w and t are at most 511 and the drawing is a solution
-  pub zero-passes : (refused top bottom w t D ≡ 0) ↔ ((rowsRefused top bottom 256 ≡ 0) × (w ≤ 511) × (t ≤ 511) × Solution top bottom w t D)
+  zero-passes : (refused top bottom w t D ≡ 0) ↔ ((rowsRefused top bottom 256 ≡ 0) × (w ≤ 511) × (t ≤ 511) × Solution top bottom w t D)
   zero-passes = (
     λ e. fine-solution (zero-fine top bottom w t D e),
     λ (r, a, b, S). fine-zero top bottom w t D (solution-fine S r a b),
@@ -181,8 +183,8 @@ module _ (top bottom : List ℕ) (w t : ℕ) (D : List ℕ) where
   )
 
   -- so the checker passes a drawing precisely then
-  pub passes : (checked top bottom w t D ≡ Passed) ↔ ((rowsRefused top bottom 256 ≡ 0) × (w ≤ 511) × (t ≤ 511) × Solution top bottom w t D)
-  passes = (
+  pub passes-solutions : (checked top bottom w t D ≡ Passed) ↔ ((rowsRefused top bottom 256 ≡ 0) × (w ≤ 511) × (t ≤ 511) × Solution top bottom w t D)
+  passes-solutions = (
     λ e. zero-passes .0 (sym (check-parts top bottom w t D .0) ∙ ap numberOf e),
     λ s. passed-number .0 (check-parts top bottom w t D .0 ∙ zero-passes .1 s),
   )

@@ -1,23 +1,25 @@
 -- The checker's tests of refusals 13 to 16 in the words of `Faults`: what each says of an entry's position, or of a net. Assumes nothing.
-use Prim.Native.Nat.{ℕ, suc, _+_, _*_, _-_, _/_, _%_, _≤_, _<_}
+use Prim.Native.Nat.{ℕ, suc, _+_, _*_, _-_, _/_, _%_, _<_}
 use mathlib.Core.Path.{_≡_, refl, sym, _∙_, ap}
 use mathlib.Core.Logic.{_≢_, _↔_, _⊎_, inl, inr, ⊎-elim}
-use mathlib.Core.Bool.{true, false, not, _&&_}
+use mathlib.Core.Bool.{true, not, _&&_}
 use mathlib.Core.List.{List}
 use lib.ListN.{length, getD}
 use lib.Dec.{eqb, ltb}
 use native.Mathlib.Omega.{arith}
 use native.Mathlib.Nat.{mod-lt, div-add-mod'}
 use Rattle.grid.specs.Channel.{pins}
-use Rattle.grid.specs.Grid.{OnePiece, verticalOf, horizontalOf}
+use Rattle.grid.specs.Grid.{verticalOf, horizontalOf}
 use Rattle.grid.proofs.Tests.{eq-eqb, ne-eqb, eqb-true, eqb-false, ltb-true, not-true, and-true}
 use Rattle.checker.specs.Faults.{Strange, PinWrong, LeavesLast, Split}
 use Rattle.checker.specs.Check.{strange, mispinned, leavesLast, split}
-use Rattle.checker.specs.Pieces.Edges.{vert-at, horz-at, netOf}
-use Rattle.checker.proofs.Lowest.{not-both}
-use Rattle.checker.proofs.entries.Pins.{pin-low, pin-high, column-below, wrong-pin}
+use Rattle.pieces.specs.Labels.{netOf}
+use Rattle.grid.proofs.Drawings.Flat.{vert-at, horz-at}
+use Rattle.checker.proofs.Least.{not-both}
+use Rattle.checker.proofs.Limits.{column-below}
+use Rattle.checker.proofs.entries.Pins.{pin-low, pin-high, wrong-pin}
 use Rattle.checker.proofs.entries.Last.{last-edge-in}
-use Rattle.checker.proofs.pieces.Splits.{not-split, is-split}
+use Rattle.checker.proofs.counting.Splits.{not-split, is-split}
 
 -- 13
 pub strange-at : (top bottom D : List ℕ) (p : ℕ) → (strange top bottom D p ≡ true) ↔ Strange top bottom D p

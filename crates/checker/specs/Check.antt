@@ -8,9 +8,10 @@ use lib.Dec.{eqb, ltb}
 use native.Mathlib.Omega.{arith}
 use Rattle.grid.specs.Channel.{pick, pins, rowsRefused}
 use Rattle.grid.specs.Refusals.{firstRefusal}
+use Rattle.grid.specs.Grid.{verticalOf, horizontalOf, OnePiece}
+use Rattle.pieces.proofs.Whole.{whole?}
 use Rattle.checker.specs.declared.Checked.{Checked}
 use Rattle.checker.specs.declared.Checked.the-variants.{Passed, Refused}
-use Rattle.checker.specs.Pieces.Exact.{whole?}
 
 -- THE ANSWER'S NUMBER AND PLACE
 -- "a definition gives this paper's number and values for each of the enum's cases": the number, "The number on acceptance is 0."
@@ -23,20 +24,20 @@ abbrev pub placeOf : Checked → ℕ
 placeOf Passed = 0
 placeOf (Refused f) = f .place
 
--- the answer with a number and a place: "A refusal returns its number and zeros for every other figure but the place."
+-- the answer with a number and a place: "A refusal returns its number and zeros for … every other figure but the place."
 abbrev pub checkedBy : (number place : ℕ) → Checked
 checkedBy zero place = Passed
 checkedBy (suc k) place = Refused (record { number = suc k; place = place })
 
--- THE LOWEST
--- "the lowest entry position", "the lowest net number": the lowest number below n that passes a test, else n
-unfoldable pub lowest : (n : ℕ) → (ℕ → Bool) → ℕ
-lowest zero P = 0
-lowest (suc n) P = pick (ltb (lowest n P) n) (lowest n P) (pick (P n) n (suc n))
+-- THE LEAST
+-- "the lowest entry position", "the lowest net number": the least number below n that passes a test, else n
+unfoldable pub least : (n : ℕ) → (ℕ → Bool) → ℕ
+least zero P = 0
+least (suc n) P = pick (ltb (least n P) n) (least n P) (pick (P n) n (suc n))
 
 -- some number below n passes a test
 abbrev pub some : (n : ℕ) → (ℕ → Bool) → Bool
-some n P = ltb (lowest n P) n
+some n P = ltb (least n P) n
 
 -- THE LINES OF THE TABLE
 -- 10: "w under n or over 511"
@@ -78,10 +79,10 @@ abbrev pub isNo : {A : Type 0} → Dec A → Bool
 isNo (yes a) = false
 isNo (no n) = true
 
--- 16: "a net in more than one piece", of net N, by the decision whether the net is one piece; 0 is no net
+-- 16: "a net in more than one piece", of net N: the answer to whether it is one piece is no; 0 is no net
 unfoldable pub split : (t : ℕ) (D : List ℕ) (N : ℕ) → Bool
 split t D zero = false
-split t D (suc N) = isNo (whole? D t (suc N) (omega arith))
+split t D (suc N) = isNo {A = OnePiece (verticalOf D t) (horizontalOf D t) (suc N)} (whole? D t (suc N) (omega arith))
 
 -- WHAT IT ANSWERS
 module _ (top bottom : List ℕ) (w t : ℕ) (D : List ℕ) where
@@ -110,10 +111,10 @@ module _ (top bottom : List ℕ) (w t : ℕ) (D : List ℕ) where
   -- otherwise."
   unfoldable pub place : (number : ℕ) → ℕ
   place k =
-      pick (eqb k 13) (lowest (length D) (strange top bottom D))
-      (pick (eqb k 14) (lowest (length D) (mispinned top bottom t D))
-      (pick (eqb k 15) (lowest (length D) (leavesLast w t D))
-      (pick (eqb k 16) (lowest 257 (split t D))
+      pick (eqb k 13) (least (length D) (strange top bottom D))
+      (pick (eqb k 14) (least (length D) (mispinned top bottom t D))
+      (pick (eqb k 15) (least (length D) (leavesLast w t D))
+      (pick (eqb k 16) (least 257 (split t D))
       0)))
 
   -- the checker's answer, by its number and the place that goes with it

@@ -1,8 +1,4 @@
--- What the customer must believe of the checker: `Check`; `Faults` says refusals 13 to 16 in words. `Pieces` is the decision that it cites; `Working`, `Strands` and `Entries` serve private
--- contracts.
+-- What the customer must believe of the checker: `Check`, its answer; `Faults` says refusals 13 to 16 in words. `Working` serves private contracts alone.
 pub mod Check
 pub mod Faults
-pub mod Pieces
 pub mod Working
-pub mod Strands
-pub mod Entries

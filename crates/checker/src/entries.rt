@@ -4,8 +4,8 @@ ghost use mathlib.Core.Bool.{true, false};
 ghost use Prim.Native.Nat.{ℕ, _+_, _*_, _-_, _≤_, _<_};
 ghost use lib.ListN.{length, getD};
 ghost use Rattle.grid.specs.Channel.{over};
-ghost use Rattle.checker.specs.Check.{lowest, strange, mispinned, leavesLast};
-ghost use Rattle.checker.specs.Entries.{Known, unknown, AllKnown, Marks};
+ghost use Rattle.checker.specs.Check.{least, strange, mispinned, leavesLast};
+ghost use Rattle.checker.specs.Working.{PinTable, unknown, AllKnown, KnownMarks};
 
 // An entry, 0 past the end.
 pub(crate) fn entry(layout: &[u16], i: usize) -> u16
@@ -33,7 +33,7 @@ fn stranger(e: u16, pins: &[u16; 257]) -> bool
 
 // The lowest entry that is neither 0 nor a net by the table, else the length.
 fn find_unknown(layout: &[u16], pins: &[u16; 257]) -> usize
-    ensures { λ r. ⌜ r ≡ lowest (length (now (layout .entry))) (λ p. unknown (now (pins .entry)) (getD (now (layout .entry)) p 0)) ⌝ }
+    ensures { λ r. ⌜ r ≡ least (length (now (layout .entry))) (λ p. unknown (now (pins .entry)) (getD (now (layout .entry)) p 0)) ⌝ }
 {
     let mut i = 0;
     while i < layout.len() {
@@ -48,7 +48,7 @@ fn find_unknown(layout: &[u16], pins: &[u16; 257]) -> usize
 // Marks of the numbers up to 256: only 0 and nets by the table have one.
 fn known_numbers(pins: &[u16; 257]) -> [bool; 257]
     requires { ⌜ length (now pins) ≡ 257 ⌝ }
-    ensures { λ r. ⌜ Marks (now (pins .entry)) r 257 ⌝ }
+    ensures { λ r. ⌜ KnownMarks (now (pins .entry)) r 257 ⌝ }
 {
     let mut known = [true; 257];
     let mut v = 1;
@@ -87,8 +87,8 @@ fn all_known(layout: &[u16], pins: &[u16; 257]) -> bool
 
 // The lowest entry that is neither 0 nor a net, else the length.
 pub(crate) fn find_strange(top: &[u16], bottom: &[u16], layout: &[u16], pins: &[u16; 257]) -> usize
-    requires { ⌜ Known (now top) (now bottom) (now pins) ⌝ }
-    ensures { λ r. ⌜ r ≡ lowest (length (now (layout .entry))) (strange (now (top .entry)) (now (bottom .entry)) (now (layout .entry))) ⌝ }
+    requires { ⌜ PinTable (now top) (now bottom) (now pins) ⌝ }
+    ensures { λ r. ⌜ r ≡ least (length (now (layout .entry))) (strange (now (top .entry)) (now (bottom .entry)) (now (layout .entry))) ⌝ }
 {
     if all_known(layout, pins) {
         return layout.len();
@@ -101,7 +101,7 @@ pub(crate) fn find_pin(top: &[u16], bottom: &[u16], w: usize, t: usize, layout: 
     requires { ⌜ length (now layout) ≡ w * (2 * t + 1) ⌝ }
     requires { ⌜ w ≤ 511 ⌝ }
     requires { ⌜ t ≤ 511 ⌝ }
-    ensures { λ r. ⌜ r ≡ lowest (length (now (layout .entry))) (mispinned (now (top .entry)) (now (bottom .entry)) t (now (layout .entry))) ⌝ }
+    ensures { λ r. ⌜ r ≡ least (length (now (layout .entry))) (mispinned (now (top .entry)) (now (bottom .entry)) t (now (layout .entry))) ⌝ }
 {
     let s = 2 * t + 1;
     let mut b = 0;
@@ -130,7 +130,7 @@ fn less(n: usize, t: usize) -> usize
 // The lowest horizontal edge of the last column, else the length. They are the last t entries.
 pub(crate) fn find_last(w: usize, t: usize, layout: &[u16]) -> usize
     requires { ⌜ length (now layout) ≡ w * (2 * t + 1) ⌝ }
-    ensures { λ r. ⌜ r ≡ lowest (length (now (layout .entry))) (leavesLast w t (now (layout .entry))) ⌝ }
+    ensures { λ r. ⌜ r ≡ least (length (now (layout .entry))) (leavesLast w t (now (layout .entry))) ⌝ }
 {
     let mut i = less(layout.len(), t);
     while i < layout.len() {

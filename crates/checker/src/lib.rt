@@ -1,14 +1,14 @@
 // The checker: whether a drawing is a solution of a channel. It rests on the rules of the grid alone.
+mod counting;
 mod entries;
-mod pieces;
+mod meeting;
 
 use grid::RowCheck;
 ghost use mathlib.Core.Path.{_≡_};
 ghost use Prim.Native.Nat.{_+_, _*_, _≤_};
 ghost use lib.ListN.{length};
 ghost use Rattle.checker.specs.Check.{numberOf, placeOf, refused, place, checked};
-ghost use Rattle.checker.specs.Working.{refusal, entriesChecked, drawingChecked};
-ghost use Rattle.checker.specs.Entries.{Known};
+ghost use Rattle.checker.specs.Working.{refusedAt, entriesChecked, drawingChecked, PinTable};
 
 // The number of a refusal, and its place: of 13 to 15 the lowest entry position, from 0, of 16 the lowest net number, else 0.
 pub struct Fault {
@@ -43,7 +43,7 @@ pub fn place_of(c: Checked) -> usize
 
 // A refusal.
 fn refuse(number: u16, place: usize) -> Checked
-    ensures { λ r. ⌜ r ≡ refusal number place ⌝ }
+    ensures { λ r. ⌜ r ≡ refusedAt number place ⌝ }
 {
     Checked::Refused(Fault { number, place })
 }
@@ -57,7 +57,7 @@ fn check_entries(
     layout: &[u16],
     pins: &[u16; 257],
 ) -> Checked
-    requires { ⌜ Known (now top) (now bottom) (now pins) ⌝ }
+    requires { ⌜ PinTable (now top) (now bottom) (now pins) ⌝ }
     requires { ⌜ length (now layout) ≡ w * (2 * t + 1) ⌝ }
     requires { ⌜ w ≤ 511 ⌝ }
     requires { ⌜ t ≤ 511 ⌝ }
@@ -75,7 +75,7 @@ fn check_entries(
     if l < layout.len() {
         return refuse(15, l);
     }
-    let n = pieces::find_split(layout, w, t);
+    let n = counting::find_split(layout, w, t);
     if n < 257 {
         return refuse(16, n);
     }
@@ -91,7 +91,7 @@ fn check_drawing(
     layout: &[u16],
     pins: &[u16; 257],
 ) -> Checked
-    requires { ⌜ Known (now top) (now bottom) (now pins) ⌝ }
+    requires { ⌜ PinTable (now top) (now bottom) (now pins) ⌝ }
     ensures { λ r. ⌜ r ≡ drawingChecked (now (top .entry)) (now (bottom .entry)) w t (now (layout .entry)) ⌝ }
 {
     if w < top.len() {
@@ -109,20 +109,15 @@ fn check_drawing(
     check_entries(top, bottom, w, t, layout, pins)
 }
 
-// A table of zeros.
-fn zeros() -> [u16; 257] {
-    [0u16; 257]
-}
-
 // Checks a drawing of w columns and t tracks against the rows of a channel.
 pub fn check(top: &[u16], bottom: &[u16], w: usize, t: usize, layout: &[u16]) -> Checked
     ensures answer { λ r. ⌜ r ≡ checked (now (top .entry)) (now (bottom .entry)) w t (now (layout .entry)) ⌝ }
     ensures number { λ r. ⌜ numberOf r ≡ refused (now (top .entry)) (now (bottom .entry)) w t (now (layout .entry)) ⌝ }
     ensures place { λ r. ⌜ placeOf r ≡ place (now (top .entry)) (now (bottom .entry)) w t (now (layout .entry)) (numberOf r) ⌝ }
 {
-    let mut first = zeros();
-    let mut last = zeros();
-    let mut pins = zeros();
+    let mut first = grid::zeros();
+    let mut last = grid::zeros();
+    let mut pins = grid::zeros();
     let rows = grid::net_facts(top, bottom, 256, &mut first, &mut last, &mut pins);
     let RowCheck::Fit(_) = rows else {
         return refuse(grid::number_of(rows), 0);

@@ -14,10 +14,10 @@ use Rattle.grid.specs.Refusals.{firstRefusal}
 use Rattle.grid.proofs.Tests.{ltb-true, eqb-true, not-false}
 use Rattle.grid.proofs.Counting.{at-below}
 use Rattle.grid.proofs.Rows.{rows-fit}
-use Rattle.checker.specs.Check.{lowest, some, wrongWidth, manyTracks, wrongSize, strange, mispinned, leavesLast, split}
+use Rattle.checker.specs.Check.{least, some, wrongWidth, manyTracks, wrongSize, strange, mispinned, leavesLast, split}
 use Rattle.checker.specs.Check.{entriesRefused, drawingRefused, refused, place}
 use Rattle.checker.proofs.Answers.{rows-low}
-use Rattle.checker.proofs.Lowest.{lowest-words, none-words}
+use Rattle.checker.proofs.Least.{least-words, none-words}
 use Rattle.checker.proofs.Passes.{over-whole}
 use Rattle.checker.specs.Faults.{Strange, PinWrong, LeavesLast, Split}
 use Rattle.demands.specs.Table.{First, Some, Least, ofDrawing}
@@ -28,13 +28,13 @@ use Rattle.checker.proofs.Places.{strange-at, pin-wrong-at, leaves-last-at, spl
 -- A TEST OF THE NUMBERS BELOW n, in words that hold of none past them
 module _ (n : ℕ) (P : ℕ → Bool) (W : ℕ → Type 0) (words : (q : ℕ) → q < n → (P q ≡ true) ↔ W q) (inside : (q : ℕ) → W q → q < n) where
   found : some n P ≡ true → Some W
-  found e = (lowest n P, lowest-words n P W words e .0)
+  found e = (least n P, least-words n P W words e .0)
 
   not-found : some n P ≡ false → Some W → ⊥
   not-found e (q, x) = none-words n P W words e q (inside q x) x
 
-  least : some n P ≡ true → Least W (lowest n P)
-  least e = let (x, l, m) = lowest-words n P W words e in record { is = x; least = λ q y. m q (inside q y) y }
+  least-found : some n P ≡ true → Least W (least n P)
+  least-found e = let (x, l, m) = least-words n P W words e in record { is = x; least = λ q y. m q (inside q y) y }
 
 -- THE TESTS
 module _ (top bottom : List ℕ) (w t : ℕ) (D : List ℕ) where
@@ -132,7 +132,7 @@ module _ (top bottom : List ℕ) (w t : ℕ) (D : List ℕ) where
         let (a, h₁) = past (some (length D) (mispinned top bottom t D)) 14 _ 13 (omega arith) h in
         let (b, h₂) = past (some (length D) (leavesLast w t D)) 15 _ 13 (omega arith) h₁ in
         let (c, h₃) = past (some 257 (split t D)) 16 0 13 (omega arith) h₂ in omega (arith, h₃)) x in
-        subst (Least (Strange top bottom D)) (placed 13 e q) (least (length D) (strange top bottom D) (Strange top bottom D) strange-words strange-inside s)
+        subst (Least (Strange top bottom D)) (placed 13 e q) (least-found (length D) (strange top bottom D) (Strange top bottom D) strange-words strange-inside s)
 
     pub pin-least : refused top bottom w t D ≡ 14 → p ≡ place top bottom w t D (refused top bottom w t D) → Least (PinWrong top bottom w t D) p
     unfolding place entriesRefused
@@ -143,7 +143,7 @@ module _ (top bottom : List ℕ) (w t : ℕ) (D : List ℕ) where
         let (b, h₂) = past (some (length D) (leavesLast w t D)) 15 _ 14 (omega arith) h in
         let (c, h₃) = past (some 257 (split t D)) 16 0 14 (omega arith) h₂ in omega (arith, h₃)) x₁ in
         subst (Least (PinWrong top bottom w t D)) (placed 14 e q)
-        (least (length D) (mispinned top bottom t D) (PinWrong top bottom w t D) (λ p. pin-wrong-at top bottom w t D p size) (pin-inside size) s)
+        (least-found (length D) (mispinned top bottom t D) (PinWrong top bottom w t D) (λ p. pin-wrong-at top bottom w t D p size) (pin-inside size) s)
 
     pub last-least : refused top bottom w t D ≡ 15 → p ≡ place top bottom w t D (refused top bottom w t D) → Least (LeavesLast w t D) p
     unfolding place entriesRefused
@@ -153,7 +153,7 @@ module _ (top bottom : List ℕ) (w t : ℕ) (D : List ℕ) where
         let (f, x₂) = past (some (length D) (mispinned top bottom t D)) 14 _ 15 (omega arith) x₁ in
         let s = here (some (length D) (leavesLast w t D)) 15 _ (λ h. let (c, h₃) = past (some 257 (split t D)) 16 0 15 (omega arith) h in omega (arith, h₃)) x₂ in
         subst (Least (LeavesLast w t D)) (placed 15 e q)
-        (least (length D) (leavesLast w t D) (LeavesLast w t D) (λ p l. leaves-last-at w t D p) (last-inside size) s)
+        (least-found (length D) (leavesLast w t D) (LeavesLast w t D) (λ p l. leaves-last-at w t D p) (last-inside size) s)
 
     pub split-least : refused top bottom w t D ≡ 16 → p ≡ place top bottom w t D (refused top bottom w t D) → Least (Split t D) p
     unfolding place entriesRefused
@@ -164,4 +164,4 @@ module _ (top bottom : List ℕ) (w t : ℕ) (D : List ℕ) where
         let (g, x₃) = past (some (length D) (leavesLast w t D)) 15 _ 16 (omega arith) x₂ in
         let s = here (some 257 (split t D)) 16 0 (λ h. omega (arith, h)) x₃ in
         subst (Least (Split t D)) (placed 16 e q)
-        (least 257 (split t D) (Split t D) (λ N l. split-at t D N) (split-inside ok (none-strange d)) s)
+        (least-found 257 (split t D) (Split t D) (λ N l. split-at t D N) (split-inside ok (none-strange d)) s)

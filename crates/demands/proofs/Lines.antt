@@ -12,7 +12,7 @@ use Rattle.grid.specs.Refusals.{firstRefusal}
 use Rattle.grid.proofs.Tests.{ltb-true, ltb-false, eqb-true, eqb-false, not-true, not-false, or-false}
 use Rattle.grid.proofs.Rows.{rows-fit, rows-more}
 use Rattle.record.specs.Record.{word, wrongLength, wrongKind, wrongBody, recordRefused}
-use Rattle.sweep.specs.Answers.{sliceLength}
+use Rattle.router.specs.Answers.{sliceLength}
 use Rattle.demands.specs.Table.{Table, end, First, Over, ofRecord, ofRows, ofLayout, ofNetTable}
 use Rattle.demands.proofs.Table.{by-test, Numbered}
 
@@ -69,9 +69,9 @@ unfolding Numbered
 none-numbered = tt
 
 -- the number of a place after which none comes
-pub alone : (k : ℕ) → firstRefusal k 0 ≡ k
-alone zero = refl
-alone (suc k) = refl
+pub no-later : (k : ℕ) → firstRefusal k 0 ≡ k
+no-later zero = refl
+no-later (suc k) = refl
 
 -- ROWS, then the places after them
 module _ (top bottom : List ℕ) where
@@ -120,7 +120,7 @@ module _ (top bottom : List ℕ) where
   -- of a call that has the rows alone
   pub rows-first : (most : ℕ) → most ≤ 256 → First (ofRows top bottom most end) (rowsRefused top bottom most)
   unfolding First
-  rows-first most m = subst (λ (k : ℕ). First (ofRows top bottom most end) k) (alone (rowsRefused top bottom most)) (rows-lines most m 0 end (λ e. refl))
+  rows-first most m = subst (λ (k : ℕ). First (ofRows top bottom most end) k) (no-later (rowsRefused top bottom most)) (rows-lines most m 0 end (λ e. refl))
 
   -- LENT SLICE
   pub layout-first : (lent : ℕ) → First (ofLayout top bottom lent) (pick (ltb lent (sliceLength top bottom)) 8 0)

@@ -1,25 +1,26 @@
 -- The first demand is met: the numbers, the zeros and the places. Assumes nothing.
-use Prim.Native.Nat.{ℕ, _≤_, min}
+use Prim.Native.Nat.{ℕ, _≤_, _<_, min}
 use mathlib.Core.Path.{refl, sym, subst, _∙_}
+use mathlib.Core.Logic.{_⊎_}
 use mathlib.Core.List.{List}
 use native.Mathlib.Omega.{arith}
 use lib.ListN.{length}
 use Rattle.grid.specs.Answers as counting
 use Rattle.grid.proofs.Answers.{check-number, check-figures, density-number, density-figure, accepted-old}
-use Rattle.sweep.specs.Answers as routing
-use Rattle.sweep.proofs.Answered.{need-number, need-entries, answer-number, answer-figures}
+use Rattle.router.specs.Answers as routing
+use Rattle.router.proofs.Answered.{need-number, need-entries, answer-number, answer-figures}
 use Rattle.checker.specs.Check as checking
-use Rattle.checker.proofs.Answers.{check-parts, place-low}
+use Rattle.checker.proofs.Answers.{check-parts, no-place-else}
 use Rattle.report.specs.Report as reporting
 use Rattle.report.proofs.Answers as report
 use Rattle.record.specs.Record as reading
 use Rattle.record.specs.Record.{topRow, bottomRow}
-use Rattle.record.proofs.Table.{numbered, columns-by}
+use Rattle.record.proofs.Refusals.{numbered, columns-by}
 use Rattle.listing.specs.Listing as listing
 use Rattle.listing.proofs.Records.{listed-number, listed-length}
 use Rattle.demands.specs.Table.{First, end, ofRecord, ofRows, ofLayout, ofNetTable, ofDrawing}
 use Rattle.demands.specs.Refusals.{Refuses, RefusesRecord, Zeros, ZerosRecord, Places}
-use Rattle.demands.proofs.Lines.{alone, rows-lines, rows-first, layout-first, table-first, record-lines}
+use Rattle.demands.proofs.Lines.{no-later, rows-lines, rows-first, layout-first, table-first, record-lines}
 use Rattle.demands.proofs.Drawings.{drawing-lines, strange-least, pin-least, last-least, split-least}
 
 -- THE NUMBERS
@@ -79,14 +80,14 @@ module _ (top bottom : List ℕ) where
         pin = λ e. pin-least top bottom w t D _ (sym n ∙ e) p;
         last = λ e. last-least top bottom w t D _ (sym n ∙ e) p;
         split = λ e. split-least top bottom w t D _ (sym n ∙ e) p;
-        other = λ l. p ∙ place-low top bottom w t D _ (omega (arith, l, n));
+        other = λ o. p ∙ no-place-else top bottom w t D _ (subst (λ (k : ℕ). (k < 13) ⊎ (16 < k)) n o);
       }
 
 -- A RECORD
 module _ (s : List ℕ) where
   read-first : First (ofRecord s end) (reading.recordRefused s)
   unfolding First
-  read-first = subst (λ (k : ℕ). First (ofRecord s end) k) (alone (reading.recordRefused s)) (record-lines s 0 end refl)
+  read-first = subst (λ (k : ℕ). First (ofRecord s end) k) (no-later (reading.recordRefused s)) (record-lines s 0 end refl)
 
   pub list-first : First (ofRecord s (ofRows (topRow s) (bottomRow s) 64 end)) (listing.numberOf (listing.listed s))
   unfolding listing.refused

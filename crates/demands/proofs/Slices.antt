@@ -13,16 +13,16 @@ use Rattle.grid.specs.View.{columnPart, columnView, partOf, noPart}
 use Rattle.grid.specs.Answers as counting
 use Rattle.grid.proofs.Answers.{accepted-new, accepted-old}
 use Rattle.grid.proofs.Views.{part-end, too-wide, too-tall, wrong-size, no-column, past-last, found}
-use Rattle.sweep.proofs.Answered.{answer-number, written-refused, written-drawn}
+use Rattle.router.proofs.Answered.{answer-number, written-refused, written-drawn}
 use Rattle.report.specs.Report as reporting
 use Rattle.report.proofs.Answers as report
 use Rattle.record.specs.Record as reading
 use Rattle.record.specs.Record.{topRow, bottomRow, laid}
 use Rattle.listing.specs.Listing as listing
-use Rattle.demands.specs.Slices.{Leaves, LeavesRecord, NoColumn, Shows}
+use Rattle.demands.specs.Slices.{LeavesSlices, LeavesRecord, NoColumn, Shows}
 
 -- for all rows
-pub leaves : (top bottom : List ℕ) → Leaves top bottom
+pub leaves : (top bottom : List ℕ) → LeavesSlices top bottom
 leaves top bottom =
     record {
       routeRefused = λ most old n. written-refused top bottom most old (λ z. n (answer-number top bottom most (length old) ∙ z));

@@ -6,10 +6,10 @@ use lib.ListN.{length, drop}
 use lib.Seq.{take-at}
 use Rattle.grid.specs.Channel.{tracks}
 use Rattle.grid.proofs.Answers.{accepted}
-use Rattle.sweep.specs.Drawing.{width, layout}
-use Rattle.sweep.proofs.Solved.{layout-length}
-use Rattle.sweep.proofs.Answered.{answer-number, let-through, written-drawn, written-solution}
-use Rattle.checker.proofs.Passes.{passes, passed-number}
+use Rattle.router.specs.Answers.{width, layout}
+use Rattle.router.proofs.Applied.{layout-length}
+use Rattle.router.proofs.Answered.{answer-number, let-through, written-drawn, written-solution}
+use Rattle.checker.proofs.Passes.{passes-solutions, passed-number}
 use Rattle.demands.specs.Solutions.{DrawsSolutions}
 use Rattle.demands.proofs.Tracks.{rows-accepted}
 
@@ -26,7 +26,7 @@ draws-solutions top bottom =
           (layout-length top bottom (accepted top bottom most (let-through top bottom most (length old) z .0))));
       solution = λ most old e. written-solution top bottom most old (sym (answer-number top bottom most (length old)) ∙ e);
       checker = λ w t D. (
-        (λ e. let (r, a, b, s) = passes top bottom w t D .0 (passed-number top bottom w t D .0 e) in (rows-accepted top bottom .0 r, a, b, s)),
-        (λ p. let (r, a, b, s) = p in passed-number top bottom w t D .1 (passes top bottom w t D .1 (rows-accepted top bottom .1 r, a, b, s))),
+        (λ e. let (r, a, b, s) = passes-solutions top bottom w t D .0 (passed-number top bottom w t D .0 e) in (rows-accepted top bottom .0 r, a, b, s)),
+        (λ p. let (r, a, b, s) = p in passed-number top bottom w t D .1 (passes-solutions top bottom w t D .1 (rows-accepted top bottom .1 r, a, b, s))),
       );
     }

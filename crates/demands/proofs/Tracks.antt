@@ -2,49 +2,52 @@
 use Prim.Native.Nat.{ℕ, zero, suc, _≤_}
 use mathlib.Core.Path.{_≡_, refl, sym, _∙_, ap, subst}
 use mathlib.Core.Logic.{_≢_, _↔_, ⊎-elim}
-use mathlib.Core.Bool.{Bool, true, false}
+use mathlib.Core.Bool.{Bool}
 use mathlib.Core.List.{List}
 use native.Mathlib.Omega.{arith}
 use lib.Dec.{ltb}
 use lib.ListN.{length}
-use Rattle.grid.specs.Channel.{bit, count, pins, density, twoPin, tracks, rowsRefused}
+use Rattle.grid.specs.declared.Family.{Family}
+use Rattle.grid.specs.declared.Family.the-variants.{TwoPin, ManyPin}
+use Rattle.grid.specs.Channel.{pick, bit, count, pins, density, pinsWithin, family, tracks, rowsRefused}
 use Rattle.grid.specs.Refusals.{firstRefusal}
 use Rattle.grid.specs.Answers as counting
 use Rattle.grid.proofs.Tests.{eq-eqb, le-ltb}
 use Rattle.grid.proofs.Counting.{sum-zero}
-use Rattle.grid.proofs.Rows.{RowsFit, rows-fit, rows-more, two-fit}
+use Rattle.grid.proofs.Rows.{RowsFit, rows-fit, rows-more, two-fit, two-density, many-density}
 use Rattle.grid.proofs.Answers.{check-number, check-figures, density-figure, accepted-new}
 use Rattle.grid.proofs.Drawings.Bound.{density-le}
-use Rattle.sweep.specs.declared.Figures.{Figures}
-use Rattle.sweep.specs.Answers as routing
-use Rattle.sweep.proofs.Solved.{solved, two-density, many-density, added-two, added-many}
-use Rattle.sweep.proofs.Applied.{width-least}
-use Rattle.sweep.proofs.Answered.{need-entries, answer-number, answer-figures, written-refused, written-drawn}
+use Rattle.router.specs.declared.Figures.{Figures}
+use Rattle.router.specs.Answers as routing
+use Rattle.sweep.proofs.Solved.{added-two, added-many}
+use Rattle.router.proofs.Applied.{solved, width-least}
+use Rattle.router.proofs.Answered.{need-entries, answer-number, answer-figures, written-refused, written-drawn}
 use Rattle.record.specs.Record.{topRow, bottomRow, recordRefused}
 use Rattle.listing.specs.Listing as listing
 use Rattle.listing.proofs.Records.{listed-number}
 use Rattle.demands.specs.Table.{LetsThrough, First, end, ofRecord, ofRows, ofLayout}
-use Rattle.demands.specs.Tracks.{PairsOnly, Drawn, Routes, Lists, ThirdDemand}
+use Rattle.demands.specs.Tracks.{PairsOnly, ChannelDrawn, Routes, ListsRecord, ThirdDemand}
 use Rattle.demands.proofs.Table.{zero-just-if-let}
 use Rattle.demands.proofs.Lines.{rows-first, rows-numbered, layout-numbered, record-numbered, none-numbered}
 use Rattle.demands.proofs.Refusals.{route-first, list-first}
 
 -- two pins for each net, as the sweeps test it
-pairs-two : (top bottom : List ℕ) → PairsOnly top bottom → twoPin top bottom ≡ true
-unfolding twoPin count
+pairs-two : (top bottom : List ℕ) → PairsOnly top bottom → family top bottom ≡ TwoPin
+unfolding family pinsWithin count
 pairs-two top bottom p =
-    eq-eqb (count (λ v. ltb 2 (pins top bottom v)) 256) 0
+    ap (λ (b : Bool). pick b TwoPin ManyPin)
+    (eq-eqb (count (λ v. ltb 2 (pins top bottom v)) 256) 0
     (sum-zero (λ v. bit (ltb 2 (pins top bottom v))) 256 (λ v l.
     ap bit (le-ltb 2 (pins top bottom (suc v))
-    (⊎-elim (λ (e : pins top bottom (suc v) ≡ 0). omega arith) (λ (e : pins top bottom (suc v) ≡ 2). omega arith) (p (suc v) (omega arith))))))
+    (⊎-elim (λ (e : pins top bottom (suc v) ≡ 0). omega arith) (λ (e : pins top bottom (suc v) ≡ 2). omega arith) (p (suc v) (omega arith)))))))
 
 -- a net of three pins or more, as the sweeps test it
-more-many : (top bottom : List ℕ) → RowsFit top bottom → (v : ℕ) → v ≢ 0 → 3 ≤ pins top bottom v → twoPin top bottom ≡ false
-more-many top bottom fit v n p = go (twoPin top bottom) refl
+more-many : (top bottom : List ℕ) → RowsFit top bottom → (v : ℕ) → v ≢ 0 → 3 ≤ pins top bottom v → family top bottom ≡ ManyPin
+more-many top bottom fit v n p = go (family top bottom) refl
   where
-    go : (b : Bool) → twoPin top bottom ≡ b → b ≡ false
-    go true e = absurd (omega (arith, two-fit top bottom fit e v (omega arith)))
-    go false e = refl
+    go : (f : Family) → family top bottom ≡ f → f ≡ ManyPin
+    go TwoPin e = absurd (omega (arith, two-fit top bottom fit e v (omega arith)))
+    go ManyPin e = refl
 
 -- A CHANNEL whose rows are accepted
 module _ (top bottom : List ℕ) (ok : rowsRefused top bottom 256 ≡ 0) where
@@ -60,7 +63,7 @@ module _ (top bottom : List ℕ) (ok : rowsRefused top bottom 256 ≡ 0) where
   unfolding LetsThrough routing.sliceLength
   enough = ((λ h. omega (arith, h, stated)), tt)
 
-  drawn : Drawn top bottom
+  drawn : ChannelDrawn top bottom
   unfolding routing.sliceLength
   drawn =
       record {
@@ -69,8 +72,8 @@ module _ (top bottom : List ℕ) (ok : rowsRefused top bottom 256 ≡ 0) where
         fewest = λ p w t D s. omega (arith, two-density top bottom (pairs-two top bottom p), density-le top bottom w t D (fit .same) s);
         more = λ v n p. many-density top bottom (more-many top bottom fit v n p);
         wide = width-least top bottom ok;
-        addedPairs = λ p. added-two top bottom ok (pairs-two top bottom p);
-        addedMore = λ v n p. added-many top bottom ok (more-many top bottom fit v n p);
+        addedPairs = λ p. added-two top bottom fit (pairs-two top bottom p);
+        addedMore = λ v n p. added-many top bottom fit (more-many top bottom fit v n p);
         rowsDensity = λ most e.
             ap (λ s. s .density) (check-figures top bottom most ∙ accepted-new (counting.refusedWithin top bottom most) _ counting.noSize (sym (check-number top bottom most) ∙ e));
         countedDensity = density-figure top bottom ∙ accepted-new (rowsRefused top bottom 256) _ 0 ok;
@@ -116,7 +119,7 @@ rows-of s e = rows-more (topRow s) (bottomRow s) 64 256 (omega arith) (go (recor
     go zero z = z
     go (suc k) z = absurd (omega (arith, z))
 
-lists : (s : List ℕ) → Lists s
+lists : (s : List ℕ) → ListsRecord s
 unfolding listing.textOf
 lists s =
     record {

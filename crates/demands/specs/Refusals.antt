@@ -1,12 +1,12 @@
 -- The first demand: every call takes all numbers and lengths, stops, and refuses with the first number of the table that applies. That each call stops and
 -- answers by these definitions, for all arguments, is its own promise.
-use Prim.Native.Nat.{ℕ, _≤_, min}
+use Prim.Native.Nat.{ℕ, _<_, min}
 use mathlib.Core.Path.{_≡_}
-use mathlib.Core.Logic.{_≢_}
+use mathlib.Core.Logic.{_≢_, _⊎_}
 use mathlib.Core.List.{List}
 use lib.ListN.{length}
 use Rattle.grid.specs.Answers as counting
-use Rattle.sweep.specs.Answers as routing
+use Rattle.router.specs.Answers as routing
 use Rattle.checker.specs.Check as checking
 use Rattle.report.specs.declared.NetRecord.{NetRecord}
 use Rattle.report.specs.Report as reporting
@@ -52,4 +52,6 @@ pub record Places (top bottom : List ℕ) (w t : ℕ) (D : List ℕ) : Type 0 wh
       checking.numberOf (checking.checked top bottom w t D) ≡ 14 → Least (PinWrong top bottom w t D) (checking.placeOf (checking.checked top bottom w t D))
   pub last : checking.numberOf (checking.checked top bottom w t D) ≡ 15 → Least (LeavesLast w t D) (checking.placeOf (checking.checked top bottom w t D))
   pub split : checking.numberOf (checking.checked top bottom w t D) ≡ 16 → Least (Split t D) (checking.placeOf (checking.checked top bottom w t D))
-  pub other : checking.numberOf (checking.checked top bottom w t D) ≤ 12 → checking.placeOf (checking.checked top bottom w t D) ≡ 0
+  pub other :
+      (checking.numberOf (checking.checked top bottom w t D) < 13) ⊎ (16 < checking.numberOf (checking.checked top bottom w t D))
+      → checking.placeOf (checking.checked top bottom w t D) ≡ 0

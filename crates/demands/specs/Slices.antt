@@ -9,8 +9,8 @@ use Rattle.grid.specs.Refusals.{ifAccepted}
 use Rattle.grid.specs.Answers as counting
 use Rattle.grid.specs.Grid.{columnOf}
 use Rattle.grid.specs.View.{columnView}
-use Rattle.sweep.specs.Drawing.{layout}
-use Rattle.sweep.specs.Answers as routing
+use Rattle.router.specs.Answers.{layout}
+use Rattle.router.specs.Answers as routing
 use Rattle.report.specs.declared.NetRecord.{NetRecord}
 use Rattle.report.specs.Report as reporting
 use Rattle.record.specs.Record as reading
@@ -18,7 +18,7 @@ use Rattle.record.specs.Record.{topRow, bottomRow, laid}
 use Rattle.listing.specs.Listing as listing
 
 -- WHAT THE CALLS ON ROWS LEAVE
-pub record Leaves (top bottom : List ℕ) : Type 0 where
+pub record LeavesSlices (top bottom : List ℕ) : Type 0 where
   -- "A refused call writes to no lent slice or table": routing, the net report, and the net facts, whose three tables are `ifAccepted` by their number
   pub routeRefused : (most : ℕ) (old : List ℕ) → routing.numberOf (routing.answer top bottom most (length old)) ≢ 0 → routing.written top bottom most old ≡ old
   pub reportRefused : (old : List NetRecord) → reporting.numberOf (reporting.reported top bottom old) ≢ 0 → reporting.tableAfter top bottom old ≡ old

@@ -7,8 +7,8 @@ use mathlib.Core.List.{List}
 use lib.ListN.{length, take}
 use Rattle.grid.specs.Channel.{tracks}
 use Rattle.grid.specs.Grid.{Solution}
-use Rattle.sweep.specs.Drawing.{width, layout}
-use Rattle.sweep.specs.Answers as routing
+use Rattle.router.specs.Answers.{width, layout}
+use Rattle.router.specs.Answers as routing
 use Rattle.checker.specs.Check as checking
 use Rattle.demands.specs.Table.{LetsThrough, end, ofRows}
 

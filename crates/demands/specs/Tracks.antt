@@ -7,10 +7,10 @@ use lib.ListN.{length, drop}
 use Rattle.grid.specs.Channel.{pins, density, tracks}
 use Rattle.grid.specs.Grid.{Solution}
 use Rattle.grid.specs.Answers as counting
-use Rattle.sweep.specs.Drawing.{width, layout}
-use Rattle.sweep.specs.Answers as routing
+use Rattle.router.specs.Answers.{width, layout}
+use Rattle.router.specs.Answers as routing
 use Rattle.record.specs.Record.{topRow, bottomRow}
-use Rattle.listing.specs.Text.{drawn}
+use Rattle.listing.specs.Text.{drawingText}
 use Rattle.listing.specs.Listing as listing
 use Rattle.demands.specs.Table.{LetsThrough, end, ofRecord, ofRows, ofLayout}
 
@@ -19,7 +19,7 @@ abbrev pub PairsOnly : (top bottom : List ℕ) → Type 0
 PairsOnly top bottom = (v : ℕ) → v ≢ 0 → (pins top bottom v ≡ 0) ⊎ (pins top bottom v ≡ 2)
 
 -- A CHANNEL whose rows the table lets through
-pub record Drawn (top bottom : List ℕ) : Type 0 where
+pub record ChannelDrawn (top bottom : List ℕ) : Type 0 where
   -- the drawing is a solution with the tracks and the width reported
   pub solution : Solution top bottom (width top bottom) (tracks top bottom) (layout top bottom)
   -- with two-pin nets only the drawing has d tracks, and no solution of any width, whoever made it, has fewer
@@ -51,14 +51,14 @@ pub record Routes (top bottom : List ℕ) (most : ℕ) (old : List ℕ) : Type 0
   pub keeps : routing.numberOf (routing.answer top bottom most (length old)) ≢ 0 → routing.written top bottom most old ≡ old
 
 -- THE LISTING of a record: it lists exactly when the table lets the call through, and then the channel's figures and the columns of its drawing
-pub record Lists (s : List ℕ) : Type 0 where
+pub record ListsRecord (s : List ℕ) : Type 0 where
   pub exactly : (listing.numberOf (listing.listed s) ≡ 0) ↔ LetsThrough (ofRecord s (ofRows (topRow s) (bottomRow s) 64 end))
   pub text : listing.textOf s
-      ≡ drawn (density (topRow s) (bottomRow s)) (tracks (topRow s) (bottomRow s)) (width (topRow s) (bottomRow s)) (layout (topRow s) (bottomRow s))
-  pub reports : listing.numberOf (listing.listed s) ≡ 0 → Drawn (topRow s) (bottomRow s)
+      ≡ drawingText (density (topRow s) (bottomRow s)) (tracks (topRow s) (bottomRow s)) (width (topRow s) (bottomRow s)) (layout (topRow s) (bottomRow s))
+  pub reports : listing.numberOf (listing.listed s) ≡ 0 → ChannelDrawn (topRow s) (bottomRow s)
 
 -- THE THIRD DEMAND
 pub record ThirdDemand : Type 0 where
-  pub drawn : (top bottom : List ℕ) → LetsThrough (ofRows top bottom 256 end) → Drawn top bottom
+  pub drawn : (top bottom : List ℕ) → LetsThrough (ofRows top bottom 256 end) → ChannelDrawn top bottom
   pub routes : (top bottom : List ℕ) (most : ℕ) (old : List ℕ) → most ≤ 256 → Routes top bottom most old
-  pub lists : (s : List ℕ) → Lists s
+  pub lists : (s : List ℕ) → ListsRecord s

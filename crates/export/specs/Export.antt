@@ -1,14 +1,15 @@
 -- Document 01, "Refused, by place": the answers of the calls as numbers. "A refusal returns its number and zeros for density, tracks, width, slice
--- length and every other figure"; "The number on acceptance is 0": each number and figure is the one that the answer's own library gives for its cases.
+-- length and every other figure but the place."; "The number on acceptance is 0": each number and figure is the one that the answer's own library gives
+-- for its cases.
 use Prim.Native.Nat.{ℕ, _/_}
 use mathlib.Core.List.{List, [], _∷_, _++_}
 use lib.ListN.{length as size, drop}
 use Rattle.grid.specs.Refusals.{ifAccepted}
 use Rattle.grid.specs.declared.DensityCount.{DensityCount}
 use Rattle.grid.specs.Answers.{countNumber, countDensity}
-use Rattle.sweep.specs.declared.Length.{Length}
-use Rattle.sweep.specs.declared.Routed.{Routed}
-use Rattle.sweep.specs.Answers.{numberOf, figuresOf, lengthNumberOf, entriesOf}
+use Rattle.router.specs.declared.Length.{Length}
+use Rattle.router.specs.declared.Routed.{Routed}
+use Rattle.router.specs.Answers.{numberOf, figuresOf, lengthNumberOf, entriesOf}
 use Rattle.checker.specs.declared.Checked.{Checked}
 use Rattle.checker.specs.Check.{placeOf}
 use Rattle.checker.specs.Check.{numberOf as faultNumber}
@@ -37,8 +38,8 @@ routeOf a =
     record { number = numberOf a; density = figuresOf a .density; tracks = figuresOf a .tracks; width = figuresOf a .width }
 
 -- the checker's number and place
-abbrev pub checkOf : Checked → CheckResult
-checkOf a = record { number = faultNumber a; place = placeOf a }
+abbrev pub faultOf : Checked → CheckResult
+faultOf a = record { number = faultNumber a; place = placeOf a }
 
 -- the listing's number and the bytes of its text
 abbrev pub listOf : Listed → ListResult

@@ -3,17 +3,17 @@ use checker::Checked;
 use grid::DensityCount;
 use grid::Part;
 use report::NetRecord;
-use sweep::Length;
-use sweep::Routed;
+use router::Length;
+use router::Routed;
 ghost use mathlib.Core.Path.{_≡_};
 ghost use mathlib.Core.List.{_++_};
 ghost use Prim.Native.Nat.{_/_, _≤_, _<_};
 ghost use lib.ListN.{length, drop};
 ghost use Rattle.grid.specs.Answers.{densityCount};
 ghost use Rattle.grid.specs.View.{columnPart};
-ghost use Rattle.sweep.specs.Answers.{need, answer, written};
+ghost use Rattle.router.specs.Answers.{need, answer, written};
 ghost use Rattle.checker.specs.Check.{checked};
-ghost use Rattle.export.specs.Export.{densityOf, needOf, routeOf, checkOf, listOf, flat, figuresAfter};
+ghost use Rattle.export.specs.Export.{densityOf, needOf, routeOf, faultOf, listOf, flat, figuresAfter};
 ghost use Rattle.export.specs.Working.{netPut};
 ghost use Rattle.report.specs.Report.{refused};
 ghost use Rattle.grid.specs.Refusals.{ifAccepted};
@@ -75,7 +75,7 @@ pub extern "C" fn gaxwethi_density(top: &[u16], bottom: &[u16]) -> DensityResult
 pub extern "C" fn gaxwethi_need(top: &[u16], bottom: &[u16]) -> NeedResult
     ensures { λ r. ⌜ r ≡ needOf (need (now (top .entry)) (now (bottom .entry))) ⌝ }
 {
-    let a = sweep::need(top, bottom);
+    let a = router::need(top, bottom);
     match a {
         Length::Entries(m) => NeedResult {
             number: 0,
@@ -94,7 +94,7 @@ pub extern "C" fn gaxwethi_route(top: &[u16], bottom: &[u16], layout: &mut [u16]
     ensures answer { λ r. ⌜ r ≡ routeOf (answer (now (top .entry)) (now (bottom .entry)) 256 (length (now (layout .entry)))) ⌝ }
     ensures drawing { λ r. ⌜ now (layout .exit) ≡ written (now (top .entry)) (now (bottom .entry)) 256 (now (layout .entry)) ⌝ }
 {
-    let a = sweep::route(top, bottom, layout);
+    let a = router::route(top, bottom, layout);
     match a {
         Routed::Drawn(x) => RouteResult {
             number: 0,
@@ -120,7 +120,7 @@ pub extern "C" fn gaxwethi_check(
     t: usize,
     layout: &[u16],
 ) -> CheckResult
-    ensures { λ r. ⌜ r ≡ checkOf (checked (now (top .entry)) (now (bottom .entry)) w t (now (layout .entry))) ⌝ }
+    ensures { λ r. ⌜ r ≡ faultOf (checked (now (top .entry)) (now (bottom .entry)) w t (now (layout .entry))) ⌝ }
 {
     let a = checker::check(top, bottom, w, t, layout);
     CheckResult {
@@ -184,7 +184,8 @@ pub extern "C" fn gaxwethi_report(top: &[u16], bottom: &[u16], figures: &mut [u1
 #[no_mangle]
 pub extern "C" fn gaxwethi_list(record: &[u8], text: &mut [u8; 131072]) -> ListResult
     ensures answer { λ r. ⌜ r ≡ listOf (listed (now («record» .entry))) ⌝ }
-    ensures text { λ r. ⌜ now (text .exit) ≡ ifAccepted (listRefused (now («record» .entry))) (laid (textOf (now («record» .entry))) (now (text .entry))) (now (text .entry)) ⌝ }
+    ensures text { λ r. ⌜ now (text .exit)
+        ≡ ifAccepted (listRefused (now («record» .entry))) (laid (textOf (now («record» .entry))) (now (text .entry))) (now (text .entry)) ⌝ }
 {
     let a = listing::list(record, text);
     ListResult {

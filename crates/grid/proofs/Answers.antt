@@ -9,13 +9,15 @@ use lib.Dec.{eqb, ltb}
 use lib.ListN.{length}
 use Rattle.grid.specs.declared.RowCheck.{RowCheck}
 use Rattle.grid.specs.declared.RowCheck.the-variants.{Fit, Refused}
+use Rattle.grid.specs.declared.Family.{Family}
+use Rattle.grid.specs.declared.Family.the-variants.{TwoPin, ManyPin}
 use Rattle.grid.specs.declared.Size.{Size}
 use Rattle.grid.specs.declared.DensityCount.{DensityCount}
 use Rattle.grid.specs.declared.DensityCount.the-variants as dc
-use Rattle.grid.specs.Channel.{over, count, pins, twoPin, density, rowsRefused}
+use Rattle.grid.specs.Channel.{pick, over, count, pins, pinsWithin, family, density, rowsRefused}
 use Rattle.grid.specs.Refusals.{ifAccepted}
-use Rattle.grid.specs.Answers.{numberOf, noSize, sizeOf, checkOf, countNumber, countDensity, countOf, refusedWithin, size, rowCheck, densityCount}
-use Rattle.grid.specs.Working.{some}
+use Rattle.grid.specs.Answers.{numberOf, noSize, sizeOf, checkOf, countNumber, countDensity, countOf, refusedWithin, acceptedSize, rowCheck, densityCount}
+use Rattle.grid.specs.Working.{someTo}
 use Rattle.grid.proofs.Tests.{eq-eqb, ne-eqb, lt-ltb, le-ltb}
 use Rattle.grid.proofs.Rows.{rows-more}
 
@@ -25,16 +27,16 @@ module _ (top bottom : List ℕ) (most : ℕ) where
   -- the answer with a number
   refused-by : (k : ℕ) → refusedWithin top bottom most ≡ suc k → Refused (suc k) ≡ rowCheck top bottom most
   unfolding rowCheck
-  refused-by k e = sym (ap (λ (n : ℕ). checkOf n (size top bottom)) e)
+  refused-by k e = sym (ap (λ (n : ℕ). checkOf n (acceptedSize top bottom)) e)
 
   -- and what else is asked of accepted rows
   pub refused-with : {A : Type 0} (k : ℕ) → refusedWithin top bottom most ≡ suc k → (Refused (suc k) ≡ rowCheck top bottom most) × (refusedWithin top bottom most ≡ 0 → A)
   refused-with k e = (refused-by k e, λ z. absurd (omega arith))
 
   -- and with none
-  pub fit-by : refusedWithin top bottom most ≡ 0 → Fit (size top bottom) ≡ rowCheck top bottom most
+  pub fit-by : refusedWithin top bottom most ≡ 0 → Fit (acceptedSize top bottom) ≡ rowCheck top bottom most
   unfolding rowCheck
-  fit-by e = sym (ap (λ (n : ℕ). checkOf n (size top bottom)) e)
+  fit-by e = sym (ap (λ (n : ℕ). checkOf n (acceptedSize top bottom)) e)
 
   -- lengths that differ
   pub case-4 : length top ≢ length bottom → refusedWithin top bottom most ≡ 4
@@ -55,21 +57,22 @@ module _ (top bottom : List ℕ) (most : ℕ) where
 
       module _ (o : (over top || over bottom) ≡ false) where
         -- a net with one pin
-        pub case-7 : some (λ v. eqb (pins top bottom v) 1) 256 ≡ true → refusedWithin top bottom most ≡ 7
+        pub case-7 : someTo (λ v. eqb (pins top bottom v) 1) 256 ≡ true → refusedWithin top bottom most ≡ 7
         unfolding rowsRefused
         case-7 h = simp (eq-eqb (length top) (length bottom) e, le-ltb (min most 256) (length top) l, o, h)
 
         -- none of these
-        pub case-0 : some (λ v. eqb (pins top bottom v) 1) 256 ≡ false → refusedWithin top bottom most ≡ 0
+        pub case-0 : someTo (λ v. eqb (pins top bottom v) 1) 256 ≡ false → refusedWithin top bottom most ≡ 0
         unfolding rowsRefused
         case-0 h = simp (eq-eqb (length top) (length bottom) e, le-ltb (min most 256) (length top) l, o, h)
 
--- each net has two pins just if none has more
-pub pairs-by : (top bottom : List ℕ) (q : Bool) → q ≡ some (λ v. ltb 2 (pins top bottom v)) 256 → not q ≡ twoPin top bottom
-unfolding twoPin
-pairs-by top bottom q e = ap not e ∙ go (eqb (count (λ v. ltb 2 (pins top bottom v)) 256) 0)
+-- the family, by whether a net has more than two pins
+pub family-by : (top bottom : List ℕ) (q : Bool) → q ≡ someTo (λ v. ltb 2 (pins top bottom v)) 256 → (f : Family) → f ≡ pick q ManyPin TwoPin
+    → f ≡ family top bottom
+unfolding family pinsWithin
+family-by top bottom q e f d = d ∙ ap (λ (b : Bool). pick b ManyPin TwoPin) e ∙ go (eqb (count (λ v. ltb 2 (pins top bottom v)) 256) 0)
   where
-    go : (b : Bool) → not (not b) ≡ b
+    go : (b : Bool) → pick (not b) ManyPin TwoPin ≡ pick b TwoPin ManyPin
     go true = refl
     go false = refl
 
@@ -88,12 +91,12 @@ module _ (top bottom : List ℕ) where
   -- the row check's number is that of the definition
   pub check-number : (most : ℕ) → numberOf (rowCheck top bottom most) ≡ refusedWithin top bottom most
   unfolding rowCheck
-  check-number most = check-parts (refusedWithin top bottom most) (size top bottom) .0
+  check-number most = check-parts (refusedWithin top bottom most) (acceptedSize top bottom) .0
 
   -- and its figures are the rows' on acceptance and zeros on refusal
-  pub check-figures : (most : ℕ) → sizeOf (rowCheck top bottom most) ≡ ifAccepted (refusedWithin top bottom most) (size top bottom) noSize
+  pub check-figures : (most : ℕ) → sizeOf (rowCheck top bottom most) ≡ ifAccepted (refusedWithin top bottom most) (acceptedSize top bottom) noSize
   unfolding rowCheck
-  check-figures most = check-parts (refusedWithin top bottom most) (size top bottom) .1
+  check-figures most = check-parts (refusedWithin top bottom most) (acceptedSize top bottom) .1
 
   -- so of the density call
   pub density-number : countNumber (densityCount top bottom) ≡ rowsRefused top bottom 256
@@ -105,11 +108,11 @@ module _ (top bottom : List ℕ) where
   density-figure = count-parts (rowsRefused top bottom 256) (density top bottom) .1
 
   -- what a call that answers the row check promises of it
-  pub check-promise : (most : ℕ) (r : RowCheck) → r ≡ rowCheck top bottom most
-      → (numberOf r ≡ refusedWithin top bottom most) × (sizeOf r ≡ ifAccepted (numberOf r) (size top bottom) noSize)
-  check-promise most r e =
+  pub rows-promise : (most : ℕ) (r : RowCheck) → r ≡ rowCheck top bottom most
+      → (numberOf r ≡ refusedWithin top bottom most) × (sizeOf r ≡ ifAccepted (numberOf r) (acceptedSize top bottom) noSize)
+  rows-promise most r e =
       let n = ap numberOf e ∙ check-number most in
-      (n, ap sizeOf e ∙ check-figures most ∙ ap (λ (k : ℕ). ifAccepted k (size top bottom) noSize) (sym n))
+      (n, ap sizeOf e ∙ check-figures most ∙ ap (λ (k : ℕ). ifAccepted k (acceptedSize top bottom) noSize) (sym n))
 
   -- and of the density
   pub density-promise : (r : DensityCount) → r ≡ densityCount top bottom
@@ -129,21 +132,21 @@ pub record Told (top bottom : List ℕ) (most : ℕ) (s : Size) : Type 0 where
   pub number : refusedWithin top bottom most ≡ 0
   pub columns : s .columns ≡ length top
   pub figure : s .density ≡ density top bottom
-  pub pairs : s .pairs ≡ twoPin top bottom
+  pub family : s .family ≡ family top bottom
 
 -- an answer `Fit`
 pub told : (top bottom : List ℕ) (most : ℕ) (r : RowCheck) (s : Size) → r ≡ rowCheck top bottom most → r ≡ Fit s → Told top bottom most s
 unfolding rowCheck
 told top bottom most r s e f = go (refusedWithin top bottom most) refl (sym f ∙ e)
   where
-    go : (k : ℕ) → refusedWithin top bottom most ≡ k → Fit s ≡ checkOf k (size top bottom) → Told top bottom most s
-    go zero n g = record { number = n; columns = (cc); figure = (cc); pairs = (cc) }
+    go : (k : ℕ) → refusedWithin top bottom most ≡ k → Fit s ≡ checkOf k (acceptedSize top bottom) → Told top bottom most s
+    go zero n g = record { number = n; columns = (cc); figure = (cc); family = (cc) }
     go (suc k) n g = absurd (let z : _≡_ {A = ℕ} 0 1 = cc in omega arith)
 
 -- an answer `Refused`
 pub refused : (top bottom : List ℕ) (most : ℕ) (r : RowCheck) (j : ℕ) → r ≡ rowCheck top bottom most → r ≡ Refused j → refusedWithin top bottom most ≢ 0
 unfolding rowCheck
-refused top bottom most r j e f n = let z : _≡_ {A = ℕ} 0 1 = cc (ap (λ (k : ℕ). checkOf k (size top bottom)) n) in omega arith
+refused top bottom most r j e f n = let z : _≡_ {A = ℕ} 0 1 = cc (ap (λ (k : ℕ). checkOf k (acceptedSize top bottom)) n) in omega arith
 
 -- the density call's answer to rows that the row check refuses
 pub count-refused : (k d : ℕ) → k ≢ 0 → dc.Refused k ≡ countOf k d

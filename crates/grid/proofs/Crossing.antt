@@ -1,14 +1,14 @@
 -- A gap is crossed by at most as many nets as there are columns: each has a pin on either side, and a column has two. Assumes nothing.
-use Prim.Native.Nat.{ℕ, zero, suc, _+_, _*_, _-_, _≤_, _<_, max}
+use Prim.Native.Nat.{ℕ, suc, _+_, _≤_}
 use native.Mathlib.Omega.{arith}
-use mathlib.Core.Bool.{true}
 use mathlib.Core.Path.{_≡_}
 use mathlib.Core.List.{List, [], _∷_, _++_}
 use lib.Dec.{ltb}
 use lib.ListN.{length, take, drop, length-append, length-take, length-drop}
-use Rattle.grid.specs.Channel.{left, right, isOpen, openAt, largest, density, times}
+use Rattle.grid.specs.Channel.{left, right, isOpen, openAt, density, times}
 use Rattle.grid.proofs.Tests.{ltb-true, and-true}
 use Rattle.grid.proofs.Counting.{pigeonhole}
+use Rattle.grid.proofs.Rows.{density-most}
 
 -- the pins in two lists are those in both
 times-append : (v : ℕ) (a b : List ℕ) → times v (a ++ b) ≡ times v a + times v b
@@ -40,7 +40,7 @@ module _ (top bottom : List ℕ) (same : length top ≡ length bottom) where
       ))
 
   -- so they are at most as many as the columns
-  pub open-few : (c : ℕ) → openAt top bottom c ≤ length top
+  open-few : (c : ℕ) → openAt top bottom c ≤ length top
   open-few c =
       omega (
         arith,
@@ -54,13 +54,6 @@ module _ (top bottom : List ℕ) (same : length top ≡ length bottom) where
         length-drop c bottom,
       )
 
-  -- at none of the first k gaps more
-  largest-few : (k : ℕ) → largest top bottom k ≤ length top
-  unfolding largest
-  largest-few zero = omega arith
-  largest-few (suc k) = omega (arith, largest-few k, open-few (suc k))
-
   -- the density is at most the number of columns
   pub density-few : density top bottom ≤ length top
-  unfolding density
-  density-few = largest-few (length top - 1)
+  density-few = density-most top bottom (length top) (λ c. open-few (suc c))

@@ -11,7 +11,7 @@ use lib.ListN.{length, getD, drop-of-length-le}
 use Rattle.grid.specs.Channel.{pick, bit, times, pins, left, right, isOpen}
 use Rattle.grid.specs.Nets.{pinAt, firstTo, lastTo, firstColumn, lastColumn}
 use Rattle.grid.proofs.Tests.{eq-eqb, ne-eqb, lt-ltb, le-ltb, le-leb, lt-leb, Same, same, diff, sameBy}
-use Rattle.grid.proofs.Rows.{HasPin, before, left-right, left-suc, pin-left, pin-right}
+use Rattle.grid.proofs.Rows.{before, left-right, left-suc}
 
 -- of a net with L pins in the columns 1 to c, f its first column so far: it is one of these columns, or there is none, or it comes later
 pub data FirstSide (L f c : ℕ) : Type 0 where
@@ -20,7 +20,7 @@ pub data FirstSide (L f c : ℕ) : Type 0 where
   ahead : L ≡ 0 → c < f → FirstSide L f c
 
 -- of a net with L pins in the columns 1 to c and M in all so far, l its last column: it lies after column c just if a pin does
-pub data LastSide (L M l c : ℕ) : Type 0 where
+data LastSide (L M l c : ℕ) : Type 0 where
   later : L < M → c < l → LastSide L M l c
   passed : L ≡ M → l ≤ c → LastSide L M l c
 
@@ -55,7 +55,7 @@ module _ (top bottom : List ℕ) (v : ℕ) where
       go false i = omega arith
 
   -- so is the last
-  pub last-le : (k : ℕ) → lastTo top bottom v k ≤ k
+  last-le : (k : ℕ) → lastTo top bottom v k ≤ k
   unfolding lastTo
   last-le zero = omega arith
   last-le (suc k) = go (pinAt top bottom v k) (last-le k)
@@ -135,7 +135,7 @@ module _ (top bottom : List ℕ) (v : ℕ) where
             (new (pinAt top bottom v k) (pin-at k) (eqb (firstTo top bottom v k) 0) (sameBy (firstTo top bottom v k) 0) (first-le k) i)
 
     -- the last column against the pins up to gap c and up to gap k
-    pub last-by : (c k : ℕ) → c ≤ k → LastSide (left top bottom c v) (left top bottom k v) (lastTo top bottom v k) c
+    last-by : (c k : ℕ) → c ≤ k → LastSide (left top bottom c v) (left top bottom k v) (lastTo top bottom v k) c
     unfolding lastTo
     last-by c zero h = passed (ap (λ (z : ℕ). left top bottom z v) (let x : c ≡ 0 = omega arith in x)) (omega arith)
     last-by c (suc k) h = ⊎-elim at (λ l. go (pinAt top bottom v k) (pin-at k) l (last-by c k l)) (up-to c k h)
@@ -174,7 +174,7 @@ module _ (top bottom : List ℕ) (v : ℕ) where
       all-left c h = omega (arith, left-right top bottom v c, right-past c h)
 
       -- the first column of the net against its pins up to any gap
-      pub first-side : (c : ℕ) → FirstSide (left top bottom c v) (firstColumn top bottom v) c
+      first-side : (c : ℕ) → FirstSide (left top bottom c v) (firstColumn top bottom v) c
       unfolding firstColumn
       first-side c = go (decLt c (length top))
         where
@@ -191,7 +191,7 @@ module _ (top bottom : List ℕ) (v : ℕ) where
           go (no h) = past (omega arith) (first-le (length top)) (first-by (length top) (length top) (omega arith))
 
       -- and its last column against those after any gap
-      pub last-side : (c : ℕ) → LastSide 0 (right top bottom c v) (lastColumn top bottom v) c
+      last-side : (c : ℕ) → LastSide 0 (right top bottom c v) (lastColumn top bottom v) c
       unfolding lastColumn
       last-side c = go (decLt c (length top))
         where
@@ -234,38 +234,3 @@ module _ (top bottom : List ℕ) (v : ℕ) where
           → isOpen top bottom c v ≡ ((not (eqb (firstColumn top bottom v) 0) && leb (firstColumn top bottom v) c) && ltb c (lastColumn top bottom v))
       unfolding isOpen
       open-columns c = ap₂ _&&_ (begun c) (goes-on c)
-
-      module _ (k : ℕ) (here : HasPin top bottom v k) where
-        -- a pin in column k + 1 starts the net just if that is its first column
-        pub starts : eqb (firstColumn top bottom v) (suc k) ≡ eqb (left top bottom k v) 0
-        starts = go (first-side k) (first-side (suc k)) (pin-left top bottom v k net here)
-          where
-            L : ℕ
-            L = left top bottom k v
-
-            f : ℕ
-            f = firstColumn top bottom v
-
-            go : FirstSide L f k → FirstSide (left top bottom (suc k) v) f (suc k) → 0 < left top bottom (suc k) v → eqb f (suc k) ≡ eqb L 0
-            go (seen a b d) j p = ne-eqb f (suc k) (omega arith) ∙ sym (ne-eqb L 0 (omega arith))
-            go (none a b) (seen x y z) p = absurd (omega arith)
-            go (none a b) (none x y) p = absurd (omega arith)
-            go (none a b) (ahead x y) p = absurd (omega arith)
-            go (ahead a b) (seen x y z) p = eq-eqb f (suc k) (omega arith) ∙ sym (eq-eqb L 0 a)
-            go (ahead a b) (none x y) p = absurd (omega arith)
-            go (ahead a b) (ahead x y) p = absurd (omega arith)
-
-        -- and ends it just if that is its last
-        pub ends : eqb (lastColumn top bottom v) (suc k) ≡ eqb (right top bottom (suc k) v) 0
-        ends = go (last-side (suc k)) (last-side k) (pin-right top bottom v k net here)
-          where
-            R : ℕ
-            R = right top bottom (suc k) v
-
-            l : ℕ
-            l = lastColumn top bottom v
-
-            go : LastSide 0 R l (suc k) → LastSide 0 (right top bottom k v) l k → 0 < right top bottom k v → eqb l (suc k) ≡ eqb R 0
-            go (later x y) i p = ne-eqb l (suc k) (omega arith) ∙ sym (ne-eqb R 0 (omega arith))
-            go (passed x y) (later a b) p = eq-eqb l (suc k) (omega arith) ∙ sym (eq-eqb R 0 (sym x))
-            go (passed x y) (passed a b) p = absurd (omega arith)

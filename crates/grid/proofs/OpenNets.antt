@@ -9,12 +9,14 @@ use native.Mathlib.Numerals.{add-one}
 use native.Mathlib.Decide.{decLt, ℕ-discrete}
 use lib.Dec.{T, eqb, ltb, leb}
 use lib.ListN.{length, getD}
-use Rattle.grid.specs.Channel.{pick, bit, sum, count, left, right, isOpen, openAt, largest}
+use Rattle.grid.specs.declared.Family.{Family}
+use Rattle.grid.specs.declared.Family.the-variants.{TwoPin, ManyPin}
+use Rattle.grid.specs.Channel.{pick, bit, sum, count, left, right, isOpen, openAt, largest, density, family, tracksOf, tracks}
 use Rattle.grid.specs.Nets.{pinAt, firstColumn, lastColumn, table}
 use Rattle.grid.specs.Working.{Rows, netsOn}
 use Rattle.grid.proofs.Tests.{eq-eqb, ne-eqb, lt-ltb, le-ltb, le-leb, lt-leb, bit-most}
 use Rattle.grid.proofs.Counting.{sum-plus, sum-zero}
-use Rattle.grid.proofs.Rows.{before}
+use Rattle.grid.proofs.Rows.{before, density-most}
 use Rattle.grid.proofs.Nets.{open-columns, first-last, first-pinned, last-pinned, no-last}
 use Rattle.grid.proofs.Sums.{sum-same, sum-both, count-le}
 use Rattle.grid.proofs.Scanning.{none-over}
@@ -75,6 +77,19 @@ none-open top bottom = sum-zero (λ v. bit (ltb 0 (left top bottom 0 v) && ltb 0
 pub open-le : (top bottom : List ℕ) (c : ℕ) → openAt top bottom c ≤ 256
 unfolding openAt
 open-le top bottom c = count-le (isOpen top bottom c) 256
+
+-- so the density is 256 at most
+pub density-small : (top bottom : List ℕ) → density top bottom ≤ 256
+density-small top bottom = density-most top bottom 256 (λ c. open-le top bottom (suc c))
+
+-- and the tracks are 511
+pub tracks-small : (top bottom : List ℕ) → tracks top bottom ≤ 511
+unfolding tracks
+tracks-small top bottom = go (family top bottom)
+  where
+    go : (f : Family) → tracksOf f (density top bottom) ≤ 511
+    go TwoPin = omega (arith, density-small top bottom)
+    go ManyPin = omega (arith, density-small top bottom)
 
 -- one gap more
 pub largest-more : (top bottom : List ℕ) (k : ℕ) → largest top bottom (suc k) ≡ max (largest top bottom k) (openAt top bottom (suc k))

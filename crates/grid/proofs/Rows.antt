@@ -1,6 +1,7 @@
--- What it says of rows that they are not refused; the pins of a net left and right of a gap; the density bounds the open nets. Assumes nothing.
-use Prim.Native.Nat.{ℕ, zero, suc, _+_, _-_, _≤_, _<_, max}
-use mathlib.Core.Path.{_≡_, refl}
+-- What it says of rows that they are not refused; families and tracks; the pins of a net left and right of a gap; the density as a bound of the open nets.
+-- Assumes nothing.
+use Prim.Native.Nat.{ℕ, zero, suc, _+_, _*_, _-_, _≤_, _<_, max}
+use mathlib.Core.Path.{_≡_, refl, ap}
 use mathlib.Core.Logic.{_⊎_, inl, inr, _≢_, ⊎-elim}
 use mathlib.Core.Bool.{Bool, true, false, not, _||_}
 use mathlib.Core.List.{List, [], _∷_}
@@ -9,17 +10,19 @@ use native.Mathlib.Decide.{decLt, ℕ-discrete}
 use lib.Dec.{eqb, ltb}
 use lib.ListN.{length, getD, take, drop, length-take, drop-of-length-le}
 use lib.Seq.{getD-take, getD-drop}
-use Rattle.grid.specs.Channel.{bit, times, over, sum, count, pins, left, right, isOpen, openAt, largest, density, twoPin, rowsRefused}
+use Rattle.grid.specs.declared.Family.{Family}
+use Rattle.grid.specs.declared.Family.the-variants.{TwoPin, ManyPin}
+use Rattle.grid.specs.Channel.{pick, bit, times, over, sum, count, pins, left, right, isOpen, openAt, largest, density}
+use Rattle.grid.specs.Channel.{pinsWithin, family, tracksOf, tracks, rowsRefused}
 use Rattle.grid.proofs.Tests.{eqBit, eqb-diff, eqb-true, eqb-false, ltb-true, ltb-false, lt-ltb, le-ltb}
 use Rattle.grid.proofs.Tests.{not-false, and-true, and-none, or-false, pick-past}
 use Rattle.grid.proofs.Counting.{times-take, times-cut, times-at, count-none, sum-zero}
 
 -- ACCEPTED ROWS
 
--- what the four refusals of the rows leave
+-- what the refusals of the rows leave but for their limit of columns, which is `rows-short`
 pub record RowsFit (top bottom : List ℕ) : Type 0 where
   pub same : length top ≡ length bottom
-  pub short : length top ≤ 256
   pub small : (v : ℕ) → 256 < v → pins top bottom v ≡ 0
   pub lone : (v : ℕ) → 1 ≤ v → pins top bottom v ≢ 1
 
@@ -57,10 +60,17 @@ rows-fit top bottom e =
     let ones = eqb-true (count (λ v. eqb (pins top bottom v) 1) 256) 0 (not-false _ d) in
     record {
       same = eqb-true (length top) (length bottom) (not-false _ a);
-      short = ltb-false 256 (length top) b;
       small = small;
       lone = λ v p. eqb-false (pins top bottom v) 1 (every-net top bottom (λ k. eqb k 1) small refl ones v p);
     }
+
+-- have as many columns as the limit at most
+pub rows-short : (top bottom : List ℕ) (most : ℕ) → rowsRefused top bottom most ≡ 0 → length top ≤ most
+unfolding rowsRefused
+rows-short top bottom most e =
+    let (a, e₁) = pick-past (not (eqb (length top) (length bottom))) 4 _ (omega arith) e in
+    let (b, e₂) = pick-past (ltb most (length top)) 5 _ (omega arith) e₁ in
+    ltb-false most (length top) b
 
 -- rows that a smaller limit lets through, a larger one does
 pub rows-more : (top bottom : List ℕ) (few most : ℕ) → few ≤ most → rowsRefused top bottom few ≡ 0 → rowsRefused top bottom most ≡ 0
@@ -70,11 +80,33 @@ rows-more top bottom few most p e =
     let (b, e₂) = pick-past (ltb few (length top)) 5 _ (omega arith) e₁ in
     rw (a, le-ltb most (length top) (omega (arith, ltb-false few (length top) b))) e₂
 
--- where each net has two pins, none has more
-pub two-fit : (top bottom : List ℕ) → RowsFit top bottom → twoPin top bottom ≡ true → (v : ℕ) → 1 ≤ v → pins top bottom v ≤ 2
-unfolding twoPin
-two-fit top bottom fit e v p =
-    ltb-false 2 (pins top bottom v) (every-net top bottom (λ k. ltb 2 k) (fit .small) refl (eqb-true (count (λ u. ltb 2 (pins top bottom u)) 256) 0 e) v p)
+-- FAMILIES
+
+-- a test of the pins of all nets holds of each net
+within-fit : (top bottom : List ℕ) → RowsFit top bottom → (k : ℕ) → pinsWithin top bottom k ≡ true → (v : ℕ) → 1 ≤ v → pins top bottom v ≤ k
+unfolding pinsWithin
+within-fit top bottom fit k e v p =
+    ltb-false k (pins top bottom v)
+    (every-net top bottom (ltb k) (fit .small) (le-ltb k 0 (omega arith)) (eqb-true (count (λ u. ltb k (pins top bottom u)) 256) 0 e) v p)
+
+-- in a channel of two-pin nets, none has more
+pub two-fit : (top bottom : List ℕ) → RowsFit top bottom → family top bottom ≡ TwoPin → (v : ℕ) → 1 ≤ v → pins top bottom v ≤ 2
+unfolding family
+two-fit top bottom fit e = within-fit top bottom fit 2 (two (pinsWithin top bottom 2) e)
+  where
+    two : (q : Bool) → pick q TwoPin ManyPin ≡ TwoPin → q ≡ true
+    two true e = refl
+    two false e = absurd (let z : _≡_ {A = ℕ} 0 1 = cc in omega arith)
+
+-- "its tracks are d where each net has two pins"
+pub two-density : (top bottom : List ℕ) → family top bottom ≡ TwoPin → tracks top bottom ≡ density top bottom
+unfolding tracks
+two-density top bottom e = ap (λ (f : Family). tracksOf f (density top bottom)) e
+
+-- "else 2d - 1"
+pub many-density : (top bottom : List ℕ) → family top bottom ≡ ManyPin → tracks top bottom ≡ 2 * density top bottom - 1
+unfolding tracks
+many-density top bottom e = ap (λ (f : Family). tracksOf f (density top bottom)) e
 
 -- PINS LEFT AND RIGHT OF A GAP
 
@@ -153,6 +185,14 @@ module _ (top bottom : List ℕ) (N k : ℕ) (n : N ≢ 0) where
   pub pin-left : HasPin top bottom N k → 0 < left top bottom (suc k) N
   pin-left h = omega (arith, left-suc, pin-bits h)
 
+-- a pin's net is one of 1 to 256
+pub pin-small : (top bottom : List ℕ) → RowsFit top bottom → (N k : ℕ) → N ≢ 0 → HasPin top bottom N k → N ≤ 256
+pin-small top bottom fit N k n here = go (decLt 256 N)
+  where
+    go : Dec (256 < N) → N ≤ 256
+    go (yes h) = absurd (omega (arith, fit .small N h, left-right top bottom N k, pin-right top bottom N k n here))
+    go (no h) = omega arith
+
 -- THE OPEN NETS OF A GAP
 
 module _ (top bottom : List ℕ) (c v : ℕ) where
@@ -170,6 +210,17 @@ module _ (top bottom : List ℕ) (c v : ℕ) where
   shut-bit : right top bottom c v ≡ 0 → bit (isOpen top bottom c v) ≡ 0
   unfolding isOpen
   shut-bit r = rw (and-none (ltb 0 (left top bottom c v)) (ltb 0 (right top bottom c v)) (le-ltb 0 (right top bottom c v) (omega arith)))
+
+-- a bound of every gap's count is one of the largest
+largest-most : (top bottom : List ℕ) (m : ℕ) → ((c : ℕ) → openAt top bottom (suc c) ≤ m) → (k : ℕ) → largest top bottom k ≤ m
+unfolding largest
+largest-most top bottom m h zero = omega arith
+largest-most top bottom m h (suc k) = omega (arith, largest-most top bottom m h k, h k)
+
+-- and of the density
+pub density-most : (top bottom : List ℕ) (m : ℕ) → ((c : ℕ) → openAt top bottom (suc c) ≤ m) → density top bottom ≤ m
+unfolding density
+density-most top bottom m h = largest-most top bottom m h (length top - 1)
 
 -- the largest count bounds each
 largest-le : (top bottom : List ℕ) (k c : ℕ) → 0 < c → c ≤ k → openAt top bottom c ≤ largest top bottom k

@@ -7,7 +7,7 @@ use native.Mathlib.Omega.{arith}
 use native.Mathlib.Numerals.{add-one}
 use lib.Dec.{eqb}
 use Rattle.grid.specs.Channel.{pick, bit, sum, count}
-use Rattle.grid.specs.Working.{some, ofBoth}
+use Rattle.grid.specs.Working.{someTo, ofBoth}
 use Rattle.grid.proofs.Tests.{eq-eqb, ne-eqb, Same, same, diff, sameBy, bit-most}
 use Rattle.grid.proofs.Counting.{sum-zero}
 
@@ -64,12 +64,12 @@ sum-both f p q k z hp hq h =
 -- TESTS OVER 1 TO k
 
 -- no number passes before the first
-pub some-none : (p : ℕ → Bool) → some p 0 ≡ false
+pub some-none : (p : ℕ → Bool) → someTo p 0 ≡ false
 unfolding count sum
 some-none p = refl
 
 -- one number more
-pub some-more : (p : ℕ → Bool) (k : ℕ) → some p (k + 1) ≡ (some p k || p (k + 1))
+pub some-more : (p : ℕ → Bool) (k : ℕ) → someTo p (k + 1) ≡ (someTo p k || p (k + 1))
 unfolding count sum
 some-more p k = rw add-one (go (p (suc k)) (eqb (count p k) 0) (sameBy (count p k) 0))
   where
@@ -80,7 +80,7 @@ some-more p k = rw add-one (go (p (suc k)) (eqb (count p k) 0) (sameBy (count p 
     go false false (diff n) = ap not (ne-eqb (sum (λ v. bit (p v)) k + 0) 0 (λ y. let u : ⊥ = omega arith in u))
 
 -- a test that passes the same numbers
-pub some-same : (p q : ℕ → Bool) (k : ℕ) → ((v : ℕ) → 1 ≤ v → v ≤ k → p v ≡ q v) → some p k ≡ some q k
+pub some-same : (p q : ℕ → Bool) (k : ℕ) → ((v : ℕ) → 1 ≤ v → v ≤ k → p v ≡ q v) → someTo p k ≡ someTo q k
 unfolding count
 some-same p q k h = ap (λ (n : ℕ). not (eqb n 0)) (sum-same (λ v. bit (p v)) (λ v. bit (q v)) k (λ v a b. ap bit (h v a b)))
 

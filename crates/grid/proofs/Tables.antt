@@ -9,8 +9,8 @@ use lib.Dec.{eqb}
 use lib.ListN.{length, getD, set, length-set}
 use lib.Seq.{getD-set-same, getD-set-other, ext-getD}
 use Rattle.grid.specs.Channel.{pick, bit, left, pins}
-use Rattle.grid.specs.Nets.{pinAt, firstTo, lastTo, firstColumn, lastColumn, from, table}
-use Rattle.grid.specs.Working.{blank, Figures, some}
+use Rattle.grid.specs.Nets.{pinAt, firstTo, lastTo, firstColumn, lastColumn, from, table, zeroTable}
+use Rattle.grid.specs.Working.{Figures, someTo}
 use Rattle.grid.proofs.Tests.{eq-eqb, ne-eqb, Same, same, diff, sameBy, bit-most}
 use Rattle.grid.proofs.Counting.{zeros}
 use Rattle.grid.proofs.Sums.{some-same}
@@ -56,13 +56,13 @@ cleared f l h = ext-getD 0 (set l 0 0) (table f) (simp length-set (h .size ∙ s
         getD-set-other l 0 (suc i) 0 0 (λ y. let x : ⊥ = omega arith in x) ∙ h .at (suc i) (omega arith) (omega arith) ∙ sym (table-at f (suc i) (omega arith) (omega arith))
 
 -- a test over a table is the test over the figures
-pub table-some : (q : ℕ → Bool) (f : ℕ → ℕ) (l : List ℕ) → l ≡ table f → some (λ v. q (getD l v 0)) 256 ≡ some (λ v. q (f v)) 256
+pub table-some : (q : ℕ → Bool) (f : ℕ → ℕ) (l : List ℕ) → l ≡ table f → someTo (λ v. q (getD l v 0)) 256 ≡ someTo (λ v. q (f v)) 256
 table-some q f l e = some-same (λ v. q (getD l v 0)) (λ v. q (f v)) 256 (λ v a b. ap q (ap (λ (m : List ℕ). getD m v 0) e ∙ table-at f v a b))
 
 -- zeros are 257 places
-pub blank-length : (l : List ℕ) → l ≡ blank → length l ≡ 257
-unfolding blank
-blank-length l e = ap length e
+pub zero-table-length : (l : List ℕ) → l ≡ zeroTable → length l ≡ 257
+unfolding zeroTable
+zero-table-length l e = ap length e
 
 -- A PIN NOTED
 
@@ -75,8 +75,8 @@ getD-set l i a v h = go (eqb i v) (sameBy i v)
     go false (diff n) = getD-set-other l i v a 0 (λ e. n (sym e))
 
 -- one pin more of a net
-tally : (l : List ℕ) (net v : ℕ) → net < length l → getD (set l net (getD l net 0 + 1)) v 0 ≡ getD l v 0 + bit (eqb net v)
-tally l net v h = getD-set l net (getD l net 0 + 1) v h ∙ go (eqb net v) (sameBy net v)
+tallied-at : (l : List ℕ) (net v : ℕ) → net < length l → getD (set l net (getD l net 0 + 1)) v 0 ≡ getD l v 0 + bit (eqb net v)
+tallied-at l net v h = getD-set l net (getD l net 0 + 1) v h ∙ go (eqb net v) (sameBy net v)
   where
     go : (q : Bool) → Same net v q → pick q (getD l net 0 + 1) (getD l v 0) ≡ getD l v 0 + bit q
     go true (same e) = ap (λ (z : ℕ). getD l z 0 + 1) e
@@ -101,11 +101,11 @@ pub record Noted (top bottom : List ℕ) (i : ℕ) (last counts : List ℕ) : Ty
   pub few : (v : ℕ) → getD counts v 0 ≤ 2 * i
 
 -- no column is noted in zeros
-pub noted-none : (top bottom last counts : List ℕ) → last ≡ blank → counts ≡ blank → Noted top bottom 0 last counts
-unfolding blank lastTo
+pub noted-none : (top bottom last counts : List ℕ) → last ≡ zeroTable → counts ≡ zeroTable → Noted top bottom 0 last counts
+unfolding zeroTable lastTo
 noted-none top bottom last counts a b = record {
-  lasts = record { size = blank-length last a; at = λ v p q. rw a (zeros 257 v) };
-  counted = record { size = blank-length counts b; at = λ v p q. rw b (zeros 257 v ∙ sym (before top bottom v)) };
+  lasts = record { size = zero-table-length last a; at = λ v p q. rw a (zeros 257 v) };
+  counted = record { size = zero-table-length counts b; at = λ v p q. rw b (zeros 257 v ∙ sym (before top bottom v)) };
   few = λ v. rw b (omega (arith, zeros 257 v));
 }
 
@@ -114,8 +114,8 @@ abbrev pub tallied : List ℕ → ℕ → List ℕ
 tallied l p = set l p (getD l p 0 + 1)
 
 -- a net's place in the tables, and room for one pin more
-abbrev pub Room : (last counts : List ℕ) (net : ℕ) → Type 0
-Room last counts net = (net < length last) × (net < length counts) × (getD counts net 0 < 1024)
+abbrev pub PinRoom : (last counts : List ℕ) (net : ℕ) → Type 0
+PinRoom last counts net = (net < length last) × (net < length counts) × (getD counts net 0 < 1024)
 
 module _ (top bottom : List ℕ) (i : ℕ) (last counts : List ℕ) (n : Noted top bottom i last counts) where
   -- all columns are noted
@@ -131,14 +131,14 @@ module _ (top bottom : List ℕ) (i : ℕ) (last counts : List ℕ) (n : Noted t
 
   module _ (few : i < 256) (p : ℕ) (hp : p ≤ 256) where
     -- room for the column's first pin
-    pub room : Room last counts p
-    room = (omega (arith, n .lasts .size), omega (arith, n .counted .size), omega (arith, n .few p))
+    pub first-pin-room : PinRoom last counts p
+    first-pin-room = (omega (arith, n .lasts .size), omega (arith, n .counted .size), omega (arith, n .few p))
 
     module _ (q c : ℕ) (hq : q ≤ 256) (l₁ k₁ : List ℕ) (el : l₁ ≡ set last p c) (ek : k₁ ≡ tallied counts p) where
       -- and for its second
-      pub room-left : Room l₁ k₁ q
-      room-left =
-          let t = ap (λ (m : List ℕ). getD m q 0) ek ∙ tally counts p q (omega (arith, n .counted .size)) in
+      pub second-pin-room : PinRoom l₁ k₁ q
+      second-pin-room =
+          let t = ap (λ (m : List ℕ). getD m q 0) ek ∙ tallied-at counts p q (omega (arith, n .counted .size)) in
           let y : length l₁ ≡ 257 = ap length el ∙ simp length-set (n .lasts .size) in
           let z : length k₁ ≡ 257 = ap length ek ∙ simp length-set (n .counted .size) in
           (omega arith, omega arith, omega (arith, n .few q, bit-most (eqb p q)))
@@ -175,8 +175,8 @@ module _ (top bottom : List ℕ) (i : ℕ) (last counts : List ℕ) (n : Noted t
           two : (v : ℕ) → getD k₂ v 0 ≡ getD counts v 0 + bit (eqb p v) + bit (eqb q v)
           two v =
               ap (λ (m : List ℕ). getD m v 0) (gk ∙ ap (λ (l : List ℕ). tallied l q) ek)
-              ∙ tally (tallied counts p) q v (simp length-set (omega (arith, n .counted .size)))
-              ∙ ap (λ (z : ℕ). z + bit (eqb q v)) (tally counts p v (omega (arith, n .counted .size)))
+              ∙ tallied-at (tallied counts p) q v (simp length-set (omega (arith, n .counted .size)))
+              ∙ ap (λ (z : ℕ). z + bit (eqb q v)) (tallied-at counts p v (omega (arith, n .counted .size)))
 
 -- THE PASS FROM THE RIGHT
 
@@ -186,10 +186,10 @@ pub record NotedAfter (top bottom : List ℕ) (i : ℕ) (first : List ℕ) : Typ
   pub firsts : (v : ℕ) → 1 ≤ v → v ≤ 256 → pick (eqb (firstTo top bottom v i) 0) (getD first v 0) (firstTo top bottom v i) ≡ firstColumn top bottom v
 
 -- no column is noted in zeros
-pub after-none : (top bottom : List ℕ) (i : ℕ) (first : List ℕ) → i ≡ length top → first ≡ blank → NotedAfter top bottom i first
-unfolding blank firstColumn
-after-none top bottom i first e b = record {
-  size = blank-length first b;
+pub noted-after-none : (top bottom : List ℕ) (i : ℕ) (first : List ℕ) → i ≡ length top → first ≡ zeroTable → NotedAfter top bottom i first
+unfolding zeroTable firstColumn
+noted-after-none top bottom i first e b = record {
+  size = zero-table-length first b;
   firsts = λ v p q.
       ap₂ (λ (z x : ℕ). pick (eqb z 0) x z) (ap (firstTo top bottom v) e) (ap (λ (m : List ℕ). getD m v 0) b ∙ zeros 257 v) ∙ go (eqb (firstTo top bottom v (length top)) 0) (sameBy (firstTo top bottom v (length top)) 0);
 }
@@ -207,14 +207,14 @@ first-back false false f x i (diff n) = sym (ap (λ (w : Bool). pick w x f) (ne-
 
 module _ (top bottom : List ℕ) (i : ℕ) (first : List ℕ) (n : NotedAfter top bottom i first) where
   -- all columns are noted
-  pub after-all : i ≡ 0 → Figures (firstColumn top bottom) first
+  pub noted-after-all : i ≡ 0 → Figures (firstColumn top bottom) first
   unfolding firstTo
-  after-all e = record { size = n .size; at = λ v a b. ap (λ (x : ℕ). pick (eqb (firstTo top bottom v x) 0) (getD first v 0) (firstTo top bottom v x)) (sym e) ∙ n .firsts v a b }
+  noted-after-all e = record { size = n .size; at = λ v a b. ap (λ (x : ℕ). pick (eqb (firstTo top bottom v x) 0) (getD first v 0) (firstTo top bottom v x)) (sym e) ∙ n .firsts v a b }
 
   -- both pins of column i are noted
-  pub after-column : (j p q c : ℕ) → i ≡ j + 1 → c ≡ i → p ≤ 256 → q ≤ 256 → p ≡ getD top j 0 → q ≡ getD bottom j 0 → NotedAfter top bottom j (set (set first p c) q c)
+  pub noted-after-column : (j p q c : ℕ) → i ≡ j + 1 → c ≡ i → p ≤ 256 → q ≤ 256 → p ≡ getD top j 0 → q ≡ getD bottom j 0 → NotedAfter top bottom j (set (set first p c) q c)
   unfolding firstTo pinAt
-  after-column j p q c ei ec hp hq ep eq = record {
+  noted-after-column j p q c ei ec hp hq ep eq = record {
     size = simp length-set (n .size);
     firsts = λ v a b.
         ap (λ (x : ℕ). pick (eqb (firstTo top bottom v j) 0) x (firstTo top bottom v j))

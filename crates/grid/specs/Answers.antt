@@ -1,15 +1,15 @@
 -- Document 01, "Refused, by place": the answers of the calls on rows, and the document's number and figures for each of their cases. "The number on
 -- acceptance is 0"; a refusal gives "zeros for density … and every other figure".
 use Prim.Native.Nat.{ℕ, zero, suc, min}
-use mathlib.Core.Bool.{false}
 use mathlib.Core.List.{List}
 use lib.ListN.{length}
 use Rattle.grid.specs.declared.Size.{Size}
+use Rattle.grid.specs.declared.Family.the-variants.{TwoPin}
 use Rattle.grid.specs.declared.RowCheck.{RowCheck}
 use Rattle.grid.specs.declared.RowCheck.the-variants.{Fit, Refused}
 use Rattle.grid.specs.declared.DensityCount.{DensityCount}
 use Rattle.grid.specs.declared.DensityCount.the-variants as count
-use Rattle.grid.specs.Channel.{twoPin, density, rowsRefused}
+use Rattle.grid.specs.Channel.{family, density, rowsRefused}
 
 -- THE ROW CHECK
 -- the number of its answer
@@ -17,9 +17,9 @@ abbrev pub numberOf : RowCheck → ℕ
 numberOf (Fit s) = 0
 numberOf (Refused k) = k
 
--- its figures, zeros on refusal
+-- its figures, zeros on refusal. Refused rows have no family; TwoPin stands there
 abbrev pub noSize : Size
-noSize = record { columns = 0; density = 0; pairs = false }
+noSize = record { columns = 0; density = 0; family = TwoPin }
 
 abbrev pub sizeOf : RowCheck → Size
 sizeOf (Fit s) = s
@@ -51,13 +51,13 @@ module _ (top bottom : List ℕ) where
   abbrev pub refusedWithin : (most : ℕ) → ℕ
   refusedWithin most = rowsRefused top bottom (min most 256)
 
-  -- the figures of accepted rows: the number of columns, the density, and whether each net has two pins
-  abbrev pub size : Size
-  size = record { columns = length top; density = density top bottom; pairs = twoPin top bottom }
+  -- the figures of accepted rows: the number of columns, the density, and the family
+  abbrev pub acceptedSize : Size
+  acceptedSize = record { columns = length top; density = density top bottom; family = family top bottom }
 
   -- the row check
   unfoldable pub rowCheck : (most : ℕ) → RowCheck
-  rowCheck most = checkOf (refusedWithin most) size
+  rowCheck most = checkOf (refusedWithin most) acceptedSize
 
   -- the density call
   unfoldable pub densityCount : DensityCount

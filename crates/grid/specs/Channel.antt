@@ -1,4 +1,4 @@
--- Document 01, "Channel and grid": rows, pins, density, tracks; and the refusals of the rows, 4 to 7.
+-- Document 01, "Channel and grid": rows, pins, density, families of channels, tracks; and the refusals of the rows, 4 to 7.
 -- A channel is two lists of numbers, top and bottom; 0 is no pin. The document counts columns from 1: `take c` are the columns 1 to c, `drop c` those
 -- after c, and gap c lies between them.
 use Prim.Native.Nat.{ℕ, zero, suc, _+_, _*_, _-_, max}
@@ -6,6 +6,8 @@ use mathlib.Core.Bool.{Bool, true, false, not, _&&_, _||_}
 use mathlib.Core.List.{List, [], _∷_}
 use lib.Dec.{eqb, ltb}
 use lib.ListN.{length, take, drop}
+use Rattle.grid.specs.declared.Family.{Family}
+use Rattle.grid.specs.declared.Family.the-variants.{TwoPin, ManyPin}
 
 -- the one of two that a test chooses
 abbrev pub pick {ℓ} : {A : Type ℓ} → Bool → A → A → A
@@ -35,6 +37,11 @@ count p k = sum (λ v. bit (p v)) k
 unfoldable pub over : List ℕ → Bool
 over [] = false
 over (x ∷ xs) = ltb 256 x || over xs
+
+-- "its tracks are d where each net has two pins, else 2d - 1": those of a channel of density d, by its family
+abbrev pub tracksOf : Family → (d : ℕ) → ℕ
+tracksOf TwoPin d = d
+tracksOf ManyPin d = 2 * d - 1
 
 module _ (top bottom : List ℕ) where
   -- "A net is all pins with one number": how many net v has
@@ -66,13 +73,17 @@ module _ (top bottom : List ℕ) where
   unfoldable pub density : ℕ
   density = largest (length top - 1)
 
-  -- each net has two pins: none has more, and refusal 7 leaves none with fewer
-  unfoldable pub twoPin : Bool
-  twoPin = eqb (count (λ v. ltb 2 (pins v)) 256) 0
+  -- no net has more than k pins; refusal 7 leaves none with fewer than two
+  unfoldable pub pinsWithin : ℕ → Bool
+  pinsWithin k = eqb (count (λ v. ltb k (pins v)) 256) 0
+
+  -- "Channels of two-pin nets": "each net has two pins"; or "Channels with a net of three or more pins"
+  unfoldable pub family : Family
+  family = pick (pinsWithin 2) TwoPin ManyPin
 
   -- "its tracks are d where each net has two pins, else 2d - 1"
   unfoldable pub tracks : ℕ
-  tracks = pick twoPin density (2 * density - 1)
+  tracks = tracksOf family density
 
   -- The number of the rows' refusal, 0 for none, "checked from the top down": 4 "lengths differ", 5 "over 256 columns; in `knee` over 64" (the limit is
   -- `most`), 6 "a number over 256", 7 "a net with one pin"

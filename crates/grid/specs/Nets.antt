@@ -3,7 +3,7 @@ use Prim.Native.Nat.{ℕ, zero, suc}
 use mathlib.Core.Bool.{Bool, _&&_, _||_}
 use mathlib.Core.List.{List, [], _∷_}
 use lib.Dec.{eqb}
-use lib.ListN.{length, getD}
+use lib.ListN.{length, getD, replicate}
 use Rattle.grid.specs.Channel.{pick}
 
 module _ (top bottom : List ℕ) where
@@ -36,3 +36,7 @@ from f i (suc k) = f i ∷ from f (suc i) k
 -- a figure of each net 1 to 256, at its number; at 0 stands 0
 unfoldable pub table : (ℕ → ℕ) → List ℕ
 table f = 0 ∷ from f 1 256
+
+-- zeros for all numbers
+unfoldable pub zeroTable : List ℕ
+zeroTable = replicate 257 0

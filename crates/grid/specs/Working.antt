@@ -4,7 +4,7 @@ use mathlib.Core.Path.{_≡_}
 use mathlib.Core.Bool.{Bool, false, not}
 use mathlib.Core.List.{List}
 use lib.Dec.{eqb}
-use lib.ListN.{length, getD, replicate}
+use lib.ListN.{length, getD}
 use Rattle.grid.specs.Channel.{pick, bit, over, count, pins}
 use Rattle.grid.specs.Nets.{firstColumn, lastColumn, table}
 
@@ -14,10 +14,6 @@ pub record Rows (top bottom : List ℕ) : Type 0 where
   pub short : length top ≤ 256
   pub above : over top ≡ false
   pub below : over bottom ≡ false
-
--- a table of zeros
-unfoldable pub blank : List ℕ
-blank = replicate 257 0
 
 -- a list of 257 places with a figure of each net 1 to 256 at its number; at 0 stands anything
 pub record Figures (f : ℕ → ℕ) (l : List ℕ) : Type 0 where
@@ -31,8 +27,8 @@ pub record Filled (top bottom first last counts : List ℕ) : Type 0 where
   pub pinned : counts ≡ table (pins top bottom)
 
 -- one of the numbers 1 to k passes a test
-abbrev pub some : (ℕ → Bool) → ℕ → Bool
-some p k = not (eqb (count p k) 0)
+abbrev pub someTo : (ℕ → Bool) → ℕ → Bool
+someTo p k = not (eqb (count p k) 0)
 
 -- a figure x of net p and y of net q, the same net once
 abbrev pub ofBoth : ℕ → ℕ → ℕ → ℕ → ℕ

@@ -1,5 +1,5 @@
 // The density: a running count of the open nets from their first and last columns.
-use crate::spans::wide;
+use crate::spans::as_index;
 ghost use mathlib.Core.Path.{_≡_};
 ghost use Prim.Native.Nat.{_+_, _-_, _≤_, _<_, max};
 ghost use lib.Dec.{eqb};
@@ -39,7 +39,9 @@ fn after(here: usize, c: u16, p: usize, q: usize, first: &[u16], last: &[u16]) -
 
 // The density of accepted rows: the largest count over the gaps.
 pub(crate) fn largest_count(top: &[u16], bottom: &[u16], first: &[u16], last: &[u16]) -> usize
-    requires { ⌜ Rows (now top) (now bottom) × (now first ≡ table (firstColumn (now top) (now bottom))) × (now last ≡ table (lastColumn (now top) (now bottom))) ⌝ }
+    requires { ⌜ Rows (now top) (now bottom)
+        × (now first ≡ table (firstColumn (now top) (now bottom)))
+        × (now last ≡ table (lastColumn (now top) (now bottom))) ⌝ }
     ensures { λ r. ⌜ r ≡ densityOf (now (top .entry)) (now (bottom .entry)) ⌝ }
 {
     let mut here = 0;
@@ -47,7 +49,7 @@ pub(crate) fn largest_count(top: &[u16], bottom: &[u16], first: &[u16], last: &[
     let mut i = 0;
     let mut c = 1u16;
     while i + 1 < top.len() {
-        here = after(here, c, wide(top[i]), wide(bottom[i]), first, last);
+        here = after(here, c, as_index(top[i]), as_index(bottom[i]), first, last);
         most = larger(most, here);
         i += 1;
         c += 1;

@@ -4,19 +4,26 @@ mod scan;
 mod spans;
 
 ghost use mathlib.Core.Path.{_≡_};
-ghost use Rattle.grid.specs.Channel.{over, pins as pinsOf};
-ghost use Rattle.grid.specs.Nets.{firstColumn, lastColumn, table};
+ghost use Rattle.grid.specs.declared.Family.the-variants.{TwoPin, ManyPin};
+ghost use Rattle.grid.specs.Channel.{pick, over, pins as pinsOf};
+ghost use Rattle.grid.specs.Nets.{firstColumn, lastColumn, table, zeroTable};
 ghost use Rattle.grid.specs.Refusals.{ifAccepted};
 ghost use Rattle.grid.specs.Channel.{rowsRefused, density as densityOf};
-ghost use Rattle.grid.specs.Answers.{numberOf, sizeOf, noSize, countNumber, countDensity, refusedWithin, size as sizeBy, rowCheck, densityCount};
-ghost use Rattle.grid.specs.Working.{blank, Filled};
+ghost use Rattle.grid.specs.Answers.{numberOf, sizeOf, noSize, countNumber, countDensity, refusedWithin, acceptedSize, rowCheck, densityCount};
+ghost use Rattle.grid.specs.Working.{Filled};
 ghost use Rattle.grid.specs.View.{noPart, columnPart, columnView};
 
-// Of accepted rows: the number of columns, the density, and whether each net has two pins.
+// The families of channels, each with a sweep of its own: each net has two pins, or one has three or more.
+pub enum Family {
+    TwoPin,
+    ManyPin,
+}
+
+// Of accepted rows: the number of columns, the density, and the family.
 pub struct Size {
     pub columns: usize,
     pub density: usize,
-    pub pairs: bool,
+    pub family: Family,
 }
 
 pub enum RowCheck {
@@ -36,6 +43,18 @@ pub struct Part {
     pub length: usize,
 }
 
+// The vertical wires of a column, five segments: the bottom net's edges below row low, nothing up to row start, the middle net's up to row stop, nothing up
+// to row high, the top net's above.
+pub struct Segments {
+    pub bottom: u16,
+    pub low: u16,
+    pub start: u16,
+    pub middle: u16,
+    pub stop: u16,
+    pub high: u16,
+    pub top: u16,
+}
+
 // The number of the refusal, 0 for none.
 pub fn number_of(r: RowCheck) -> u16
     ensures { λ k. ⌜ k ≡ numberOf r ⌝ }
@@ -46,11 +65,22 @@ pub fn number_of(r: RowCheck) -> u16
     }
 }
 
-// A table with zeros for all nets.
-fn zeros() -> [u16; 257]
-    ensures { λ r. ⌜ r ≡ blank ⌝ }
+// A table of a figure of each net, at its number, with zeros for all of them: what `net_facts` is lent.
+pub fn zeros() -> [u16; 257]
+    ensures { λ r. ⌜ r ≡ zeroTable ⌝ }
 {
     [0u16; 257]
+}
+
+// The family of a channel, by whether a net has three or more pins.
+fn family_of(three: bool) -> Family
+    ensures { λ r. ⌜ r ≡ pick three ManyPin TwoPin ⌝ }
+{
+    if three {
+        Family::ManyPin
+    } else {
+        Family::TwoPin
+    }
 }
 
 // The row check, with three tables of zeros for its work. Of accepted rows they hold the facts of each net after it.
@@ -62,9 +92,10 @@ fn checked(
     last: &mut [u16],
     pins: &mut [u16],
 ) -> RowCheck
-    requires { ⌜ (now first ≡ blank) × (now last ≡ blank) × (now pins ≡ blank) ⌝ }
+    requires { ⌜ (now first ≡ zeroTable) × (now last ≡ zeroTable) × (now pins ≡ zeroTable) ⌝ }
     ensures answer { λ r. ⌜ r ≡ rowCheck (now (top .entry)) (now (bottom .entry)) most ⌝ }
-    ensures tables { λ r. ⌜ (refusedWithin (now (top .entry)) (now (bottom .entry)) most ≡ 0 → Filled (now (top .entry)) (now (bottom .entry)) (now (first .exit)) (now (last .exit)) (now (pins .exit))) ⌝ }
+    ensures tables { λ r. ⌜ (refusedWithin (now (top .entry)) (now (bottom .entry)) most ≡ 0
+        → Filled (now (top .entry)) (now (bottom .entry)) (now (first .exit)) (now (last .exit)) (now (pins .exit))) ⌝ }
 {
     if top.len() != bottom.len() {
         return RowCheck::Refused(4);
@@ -83,7 +114,7 @@ fn checked(
     RowCheck::Fit(Size {
         columns: top.len(),
         density: gaps::largest_count(top, bottom, first, last),
-        pairs: !tests.many,
+        family: family_of(tests.three),
     })
 }
 
@@ -91,7 +122,7 @@ fn checked(
 pub fn check_rows(top: &[u16], bottom: &[u16], most: usize) -> RowCheck
     ensures answer { λ r. ⌜ r ≡ rowCheck (now (top .entry)) (now (bottom .entry)) most ⌝ }
     ensures number { λ r. ⌜ numberOf r ≡ refusedWithin (now (top .entry)) (now (bottom .entry)) most ⌝ }
-    ensures figures { λ r. ⌜ sizeOf r ≡ ifAccepted (numberOf r) (sizeBy (now (top .entry)) (now (bottom .entry))) noSize ⌝ }
+    ensures figures { λ r. ⌜ sizeOf r ≡ ifAccepted (numberOf r) (acceptedSize (now (top .entry)) (now (bottom .entry))) noSize ⌝ }
 {
     let mut first = zeros();
     let mut last = zeros();
@@ -113,7 +144,7 @@ pub fn net_facts(
     ensures last { λ r. ⌜ now (last .exit) ≡ ifAccepted (numberOf r) (table (lastColumn (now (top .entry)) (now (bottom .entry)))) (now (last .entry)) ⌝ }
     ensures pins { λ r. ⌜ now (pins .exit) ≡ ifAccepted (numberOf r) (table (pinsOf (now (top .entry)) (now (bottom .entry)))) (now (pins .entry)) ⌝ }
     ensures number { λ r. ⌜ numberOf r ≡ refusedWithin (now (top .entry)) (now (bottom .entry)) most ⌝ }
-    ensures figures { λ r. ⌜ sizeOf r ≡ ifAccepted (numberOf r) (sizeBy (now (top .entry)) (now (bottom .entry))) noSize ⌝ }
+    ensures figures { λ r. ⌜ sizeOf r ≡ ifAccepted (numberOf r) (acceptedSize (now (top .entry)) (now (bottom .entry))) noSize ⌝ }
 {
     let mut firsts = zeros();
     let mut lasts = zeros();

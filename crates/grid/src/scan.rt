@@ -4,12 +4,12 @@ ghost use Prim.Native.Nat.{min};
 ghost use lib.Dec.{eqb, ltb};
 ghost use lib.ListN.{length, getD};
 ghost use Rattle.grid.specs.Channel.{over};
-ghost use Rattle.grid.specs.Working.{some};
+ghost use Rattle.grid.specs.Working.{someTo};
 
-// Whether a net has one pin, and whether one has more than two.
+// Whether a net has a single pin, and whether one has three or more.
 pub(crate) struct Flags {
     pub single: bool,
-    pub many: bool,
+    pub three: bool,
 }
 
 // The largest number of columns: at most 256.
@@ -35,17 +35,17 @@ pub(crate) fn has_over(row: &[u16]) -> bool
 // The tests over the pin counts of all nets.
 pub(crate) fn tests(pins: &[u16]) -> Flags
     requires { ⌜ length (now pins) ≡ 257 ⌝ }
-    ensures single { λ r. ⌜ r .single ≡ some (λ v. eqb (getD (now (pins .entry)) v 0) 1) 256 ⌝ }
-    ensures many { λ r. ⌜ r .many ≡ some (λ v. ltb 2 (getD (now (pins .entry)) v 0)) 256 ⌝ }
+    ensures single { λ r. ⌜ r .single ≡ someTo (λ v. eqb (getD (now (pins .entry)) v 0) 1) 256 ⌝ }
+    ensures three { λ r. ⌜ r .three ≡ someTo (λ v. ltb 2 (getD (now (pins .entry)) v 0)) 256 ⌝ }
 {
     let mut single = false;
-    let mut many = false;
+    let mut three = false;
     let mut v = 0;
     while v < 256 {
         v += 1;
         let k = pins[v];
         single = single | (k == 1);
-        many = many | (2 < k);
+        three = three | (2 < k);
     }
-    Flags { single, many }
+    Flags { single, three }
 }

@@ -3,10 +3,11 @@ ghost use mathlib.Core.Path.{_≡_};
 ghost use Prim.Native.Nat.{_+_, _<_};
 ghost use lib.ListN.{length, getD, set};
 ghost use Rattle.grid.specs.Channel.{pins as pinsOf};
-ghost use Rattle.grid.specs.Nets.{firstColumn, lastColumn};
-ghost use Rattle.grid.specs.Working.{Rows, blank, Figures, Filled};
+ghost use Rattle.grid.specs.Nets.{firstColumn, lastColumn, zeroTable};
+ghost use Rattle.grid.specs.Working.{Rows, Figures, Filled};
 
-pub(crate) fn wide(x: u16) -> usize
+// A number as an index.
+pub(crate) fn as_index(x: u16) -> usize
     ensures { λ r. ⌜ r ≡ x ⌝ }
 {
     x as usize
@@ -24,15 +25,15 @@ fn note(net: usize, c: u16, last: &mut [u16], pins: &mut [u16])
 
 // Notes the last column and the pin count of each net, from the left.
 fn note_from_left(top: &[u16], bottom: &[u16], last: &mut [u16], pins: &mut [u16])
-    requires { ⌜ Rows (now top) (now bottom) × (now last ≡ blank) × (now pins ≡ blank) ⌝ }
+    requires { ⌜ Rows (now top) (now bottom) × (now last ≡ zeroTable) × (now pins ≡ zeroTable) ⌝ }
     ensures last { λ _. ⌜ Figures (lastColumn (now (top .entry)) (now (bottom .entry))) (now (last .exit)) ⌝ }
     ensures pins { λ _. ⌜ Figures (pinsOf (now (top .entry)) (now (bottom .entry))) (now (pins .exit)) ⌝ }
 {
     let mut i = 0;
     let mut c = 1u16;
     while i < top.len() {
-        note(wide(top[i]), c, last, pins);
-        note(wide(bottom[i]), c, last, pins);
+        note(as_index(top[i]), c, last, pins);
+        note(as_index(bottom[i]), c, last, pins);
         i += 1;
         c += 1;
     }
@@ -40,15 +41,15 @@ fn note_from_left(top: &[u16], bottom: &[u16], last: &mut [u16], pins: &mut [u16
 
 // Notes the first column of each net, from the right: the pin stored last is the leftmost.
 fn note_from_right(top: &[u16], bottom: &[u16], first: &mut [u16])
-    requires { ⌜ Rows (now top) (now bottom) × (now first ≡ blank) ⌝ }
+    requires { ⌜ Rows (now top) (now bottom) × (now first ≡ zeroTable) ⌝ }
     ensures { λ _. ⌜ Figures (firstColumn (now (top .entry)) (now (bottom .entry))) (now (first .exit)) ⌝ }
 {
     let mut i = top.len();
     let mut c = i as u16;
     while 0 < i {
         i -= 1;
-        first[wide(top[i])] = c;
-        first[wide(bottom[i])] = c;
+        first[as_index(top[i])] = c;
+        first[as_index(bottom[i])] = c;
         c -= 1;
     }
 }
@@ -61,7 +62,7 @@ pub(crate) fn fill(
     last: &mut [u16],
     pins: &mut [u16],
 )
-    requires { ⌜ Rows (now top) (now bottom) × (now first ≡ blank) × (now last ≡ blank) × (now pins ≡ blank) ⌝ }
+    requires { ⌜ Rows (now top) (now bottom) × (now first ≡ zeroTable) × (now last ≡ zeroTable) × (now pins ≡ zeroTable) ⌝ }
     ensures { λ _. ⌜ Filled (now (top .entry)) (now (bottom .entry)) (now (first .exit)) (now (last .exit)) (now (pins .exit)) ⌝ }
 {
     note_from_left(top, bottom, last, pins);

@@ -2,28 +2,28 @@
 use Prim.Native.Nat.{ℕ, zero, suc, _+_, _-_, _*_, _≤_, _<_}
 use native.Mathlib.Omega.{arith}
 use native.Mathlib.Decide.{decLt, ℕ-discrete}
-use mathlib.Core.Bool.{Bool, true, false}
 use mathlib.Core.Logic.{_⊎_, inl, inr, _≢_, ⊎-elim}
 use mathlib.Core.Path.{_≡_, refl, ap, sym, subst, _∙_}
 use mathlib.Core.List.{List}
 use lib.ListN.{length, getD, drop}
-use Rattle.grid.specs.Channel.{density, tracks, twoPin, pins, rowsRefused}
-use Rattle.grid.proofs.Rows.{rows-fit, rows-more}
+use Rattle.grid.specs.declared.Family.{Family}
+use Rattle.grid.specs.declared.Family.the-variants.{TwoPin, ManyPin}
+use Rattle.grid.specs.Channel.{density, tracks, family, pins, rowsRefused}
+use Rattle.grid.proofs.Rows.{rows-fit, rows-more, two-density, many-density}
 use Rattle.grid.proofs.Answers.{case-5}
 use Rattle.grid.proofs.Counting.{at-below}
 use Rattle.grid.proofs.Crossing.{density-few}
-use Rattle.sweep.specs.declared.Figures.{Figures}
-use Rattle.sweep.specs.declared.Routed.{Routed}
-use Rattle.sweep.specs.declared.Routed.the-variants.{Drawn, Refused}
-use Rattle.sweep.specs.Drawing.{width, layout}
-use Rattle.sweep.specs.Answers.{routedBy, sliceLength, figures, refused, answer, written}
-use Rattle.sweep.proofs.Solved.{solved, layout-length, width-most, two-density, many-density}
-use Rattle.sweep.proofs.Applied.{layout-fits}
-use Rattle.sweep.proofs.Answered.{passes, refuses, written-drawn, written-length}
+use Rattle.router.specs.declared.Figures.{Figures}
+use Rattle.router.specs.declared.Routed.{Routed}
+use Rattle.router.specs.declared.Routed.the-variants.{Drawn, Refused}
+use Rattle.router.specs.Answers.{width, layout}
+use Rattle.router.specs.Answers.{routedBy, sliceLength, figures, refused, answer, written}
+use Rattle.router.proofs.Applied.{solved, layout-length, width-half, layout-fits}
+use Rattle.router.proofs.Answered.{passes, refuses, written-drawn, written-length}
 use Rattle.listing.specs.declared.Listed.the-variants as listed
-use Rattle.listing.specs.Text.{drawn}
+use Rattle.listing.specs.Text.{drawingText}
 use Rattle.listing.specs.Listing.{channelText}
-use Rattle.listing.specs.Working.{Room, Put, Lists}
+use Rattle.listing.specs.Working.{Room, PutOver, Lists}
 use Rattle.listing.proofs.Put.{put-laid, counted}
 use Rattle.listing.proofs.Front.{drawn-front}
 use Rattle.listing.proofs.Size.{drawn-room, figures-few}
@@ -35,7 +35,7 @@ refused-lists zero j new old e n = absurd (n refl)
 refused-lists (suc k) j new old e n = record { answer = ap listed.Refused (sym e); text = refl; counts = (omega arith, refl) }
 
 -- a text that was put
-pub put-lists : (k : ℕ) (new old : List ℕ) (e : ℕ) (now : List ℕ) → k ≡ 0 → Put old 0 new e now → Lists k new old (listed.Text e) now
+pub put-lists : (k : ℕ) (new old : List ℕ) (e : ℕ) (now : List ℕ) → k ≡ 0 → PutOver old 0 new e now → Lists k new old (listed.Text e) now
 put-lists zero new old e now z p = record { answer = ap listed.Text (put-laid p .0); text = put-laid p .1; counts = counted p }
 put-lists (suc k) new old e now z p = absurd (omega arith)
 
@@ -44,17 +44,17 @@ put-lists (suc k) new old e now z p = absurd (omega arith)
 pub record Drawable (top bottom : List ℕ) (x : Figures) (slice : List ℕ) : Type 0 where
   pub long : x .width * (2 * x .tracks + 1) ≤ length slice
   pub few : x .tracks ≤ 127
-  pub room : (text : List ℕ) → length text ≡ 131072 → Room text 0 (drawn (x .density) (x .tracks) (x .width) slice)
-  pub text : drawn (x .density) (x .tracks) (x .width) slice ≡ channelText top bottom
+  pub room : (text : List ℕ) → length text ≡ 131072 → Room text 0 (drawingText (x .density) (x .tracks) (x .width) slice)
+  pub text : drawingText (x .density) (x .tracks) (x .width) slice ≡ channelText top bottom
 
 module _ (top bottom : List ℕ) where
   -- the tracks by the density
   tracks-by : (tracks top bottom ≡ density top bottom) ⊎ (tracks top bottom ≡ 2 * density top bottom - 1)
-  tracks-by = go (twoPin top bottom) refl
+  tracks-by = go (family top bottom) refl
     where
-      go : (b : Bool) → twoPin top bottom ≡ b → (tracks top bottom ≡ density top bottom) ⊎ (tracks top bottom ≡ 2 * density top bottom - 1)
-      go true e = inl (two-density top bottom e)
-      go false e = inr (many-density top bottom e)
+      go : (f : Family) → family top bottom ≡ f → (tracks top bottom ≡ density top bottom) ⊎ (tracks top bottom ≡ 2 * density top bottom - 1)
+      go TwoPin e = inl (two-density top bottom e)
+      go ManyPin e = inr (many-density top bottom e)
 
   module _ (ok : rowsRefused top bottom 64 ≡ 0) where
     -- the rows are accepted
@@ -73,7 +73,7 @@ module _ (top bottom : List ℕ) where
     small : (tracks top bottom ≤ 127) × (width top bottom ≤ 127) × (sliceLength top bottom ≤ 32385)
     unfolding sliceLength
     small = figures-few (length top) (density top bottom) (tracks top bottom) (width top bottom) short
-        (density-few top bottom (rows-fit top bottom accepted .same)) tracks-by (width-most top bottom accepted)
+        (density-few top bottom (rows-fit top bottom accepted .same)) tracks-by (width-half top bottom accepted)
 
     -- the entries are numbers up to 256
     entries-few : (i : ℕ) → getD (layout top bottom) i 0 < 1000
@@ -99,8 +99,8 @@ module _ (top bottom : List ℕ) where
     leaves old l =
         let p = drawn-by (length old) l in
         let s = layout-fits top bottom accepted (length old) (omega (arith, small .2)) in
-        let f : drawn (density top bottom) (tracks top bottom) (width top bottom) (written top bottom 64 old) ≡ channelText top bottom =
-        ap (λ z. drawn (density top bottom) (tracks top bottom) (width top bottom) z) (written-drawn top bottom 64 old p)
+        let f : drawingText (density top bottom) (tracks top bottom) (width top bottom) (written top bottom 64 old) ≡ channelText top bottom =
+        ap (λ z. drawingText (density top bottom) (tracks top bottom) (width top bottom) z) (written-drawn top bottom 64 old p)
         ∙ drawn-front (layout top bottom) (drop (length (layout top bottom)) old) (density top bottom) (tracks top bottom) (width top bottom)
         (omega (arith, layout-length top bottom accepted)) in
         record {

@@ -6,7 +6,7 @@ use mathlib.Core.Path.{_≡_, refl, ap, _∙_}
 use mathlib.Core.List.{List, [], _∷_, _++_}
 use lib.ListN.{length, getD, List·getD-append}
 use Rattle.listing.specs.Digits.{decimal}
-use Rattle.listing.specs.Text.{cells, columnAt, lineAt, lines, header, drawn}
+use Rattle.listing.specs.Text.{cells, columnAt, lineAt, lines, header, drawingText}
 
 module _ (xs ys : List ℕ) where
   -- the same cells
@@ -33,6 +33,6 @@ module _ (xs ys : List ℕ) where
       ∙ ap (λ z. lines xs t c ++ z) (line-front t (suc c) (c * (2 * t + 1)) (omega (arith, suc-mul c (2 * t + 1))))
 
   -- the listing of a layout with more behind it
-  pub drawn-front : (d t w : ℕ) → w * (2 * t + 1) ≤ length xs → drawn d t w (xs ++ ys) ≡ drawn d t w xs
-  unfolding drawn
+  pub drawn-front : (d t w : ℕ) → w * (2 * t + 1) ≤ length xs → drawingText d t w (xs ++ ys) ≡ drawingText d t w xs
+  unfolding drawingText
   drawn-front d t w h = ap (λ z. header d t w ++ z) (lines-front t w h)

@@ -12,21 +12,21 @@ use lib.Dec.{ltb}
 use borrow.Author.Tests.{ltb-true, ltb-false}
 use Rattle.record.specs.Record.{laid}
 use Rattle.record.specs.Counts.{Counts}
-use Rattle.listing.specs.Working.{Room, over, Put}
+use Rattle.listing.specs.Working.{Room, overwritten, PutOver}
 
 -- nothing put over a text
-over-none : (old : List ℕ) (at : ℕ) → over old at [] ≡ old
-unfolding over
+over-none : (old : List ℕ) (at : ℕ) → overwritten old at [] ≡ old
+unfolding overwritten
 over-none old at = ap (λ z. take at old ++ drop z old) (add-zero at) ∙ take-append-drop at old
 
 -- one byte put over a text
-over-one : (old : List ℕ) (at x : ℕ) → at < length old → set old at x ≡ over old at (x ∷ [])
-unfolding over
+over-one : (old : List ℕ) (at x : ℕ) → at < length old → set old at x ≡ overwritten old at (x ∷ [])
+unfolding overwritten
 over-one old at x h = set-split old at x h ∙ sym (ap (λ z. take at old ++ (x ∷ drop z old)) (add-one at))
 
 -- one list put over a text, then another behind it
-over-over : (old : List ℕ) (at : ℕ) (a b : List ℕ) → at + length a ≤ length old → over (over old at a) (at + length a) b ≡ over old at (a ++ b)
-unfolding over
+over-over : (old : List ℕ) (at : ℕ) (a b : List ℕ) → at + length a ≤ length old → overwritten (overwritten old at a) (at + length a) b ≡ overwritten old at (a ++ b)
+unfolding overwritten
 over-over old at a b h =
     ap (λ z. z ++ (b ++ drop (at + length a + length b) (take at old ++ (a ++ drop (at + length a) old)))) front
     ∙ ap (λ z. (take at old ++ a) ++ (b ++ z)) back
@@ -50,20 +50,20 @@ over-over old at a b h =
         ∙ ap (λ z. drop z old) (add-assoc at (length a) (length b) ∙ ap (λ z. at + z) (sym (length-append a b)))
 
 -- nothing put
-pub put-none : (old : List ℕ) (at : ℕ) → at ≤ length old → Put old at [] at old
+pub put-none : (old : List ℕ) (at : ℕ) → at ≤ length old → PutOver old at [] at old
 put-none old at h = record { holds = sym (over-none old at); ends = sym (add-zero at); fits = h; keeps = refl }
 
 -- one byte put
-pub put-one : (old : List ℕ) (at x : ℕ) → at < length old → Put old at (x ∷ []) (at + 1) (set old at x)
+pub put-one : (old : List ℕ) (at x : ℕ) → at < length old → PutOver old at (x ∷ []) (at + 1) (set old at x)
 put-one old at x h = record { holds = over-one old at x h; ends = refl; fits = omega arith; keeps = length-set old at x }
 
 -- b put after a
 pub put-then : {old : List ℕ} {at : ℕ} {a : List ℕ} {m : ℕ} {mid : List ℕ} {b : List ℕ} {e : ℕ} {now : List ℕ}
-    → Put old at a m mid → Put mid m b e now → Put old at (a ++ b) e now
+    → PutOver old at a m mid → PutOver mid m b e now → PutOver old at (a ++ b) e now
 put-then {old} {at} {a} {m} {mid} {b} {e} {now} p q =
     record {
       holds =
-          q .holds ∙ ap (λ z. over z m b) (p .holds) ∙ ap (λ z. over (over old at a) z b) (p .ends)
+          q .holds ∙ ap (λ z. overwritten z m b) (p .holds) ∙ ap (λ z. overwritten (overwritten old at a) z b) (p .ends)
           ∙ over-over old at a b (omega (arith, p .ends, p .fits));
       ends = q .ends ∙ omega (arith, p .ends, length-append a b);
       fits = omega (arith, q .fits, p .keeps);
@@ -71,30 +71,30 @@ put-then {old} {at} {a} {m} {mid} {b} {e} {now} p q =
     }
 
 -- the same put, with what was put written otherwise
-pub put-as : {old : List ℕ} {at : ℕ} {a : List ℕ} {e : ℕ} {now : List ℕ} → Put old at a e now → (b : List ℕ) → a ≡ b → Put old at b e now
-put-as {old} {at} {a} {e} {now} p b h = subst (λ z. Put old at z e now) h p
+pub put-as : {old : List ℕ} {at : ℕ} {a : List ℕ} {e : ℕ} {now : List ℕ} → PutOver old at a e now → (b : List ℕ) → a ≡ b → PutOver old at b e now
+put-as {old} {at} {a} {e} {now} p b h = subst (λ z. PutOver old at z e now) h p
 
 -- a text put from the start on: its bytes, then the old ones; and how many they are
-pub put-laid : {old new : List ℕ} {e : ℕ} {now : List ℕ} → Put old 0 new e now → (e ≡ length new) × (now ≡ laid new old)
-unfolding over
+pub put-laid : {old new : List ℕ} {e : ℕ} {now : List ℕ} → PutOver old 0 new e now → (e ≡ length new) × (now ≡ laid new old)
+unfolding overwritten
 put-laid {old} {new} {e} {now} p = (p .ends ∙ zero-add (length new), p .holds ∙ ap (λ z. new ++ drop z old) (zero-add (length new)))
 
 -- the bytes put can be taken as a part
-pub counted : {old : List ℕ} {at : ℕ} {new : List ℕ} {e : ℕ} {now : List ℕ} → Put old at new e now → Counts e now
+pub counted : {old : List ℕ} {at : ℕ} {new : List ℕ} {e : ℕ} {now : List ℕ} → PutOver old at new e now → Counts e now
 counted {old} {at} {new} {e} {now} p = (omega (arith, p .fits, p .keeps), sym (length-take-le e now (omega (arith, p .fits, p .keeps))))
 
 -- the same put, where the count that was reached is the count that was asked for
 pub put-all : {old : List ℕ} {at : ℕ} {m : ℕ} {now : List ℕ} (f : ℕ → List ℕ) (k n : ℕ) → k ≤ n → n ≤ k
-    → Put old at (f k) m now → Put old at (f n) m now
+    → PutOver old at (f k) m now → PutOver old at (f n) m now
 put-all f k n h l p = put-as p (f n) (ap f (omega arith))
 
 -- room for two: room for the first
-pub first : {old : List ℕ} {at : ℕ} {a : List ℕ} (b : List ℕ) → Room old at (a ++ b) → Room old at a
-first {old} {at} {a} b r = record { room = omega (arith, r .room, length-append a b) }
+pub room-before : {old : List ℕ} {at : ℕ} {a : List ℕ} (b : List ℕ) → Room old at (a ++ b) → Room old at a
+room-before {old} {at} {a} b r = record { room = omega (arith, r .room, length-append a b) }
 
 -- and, once the first is put, room for the second
-pub next : {old : List ℕ} {at : ℕ} {a b : List ℕ} {m : ℕ} {mid : List ℕ} → Put old at a m mid → Room old at (a ++ b) → Room mid m b
-next {old} {at} {a} {b} {m} {mid} p r = record { room = omega (arith, r .room, length-append a b, p .ends, p .keeps) }
+pub room-behind : {old : List ℕ} {at : ℕ} {a b : List ℕ} {m : ℕ} {mid : List ℕ} → PutOver old at a m mid → Room old at (a ++ b) → Room mid m b
+room-behind {old} {at} {a} {b} {m} {mid} p r = record { room = omega (arith, r .room, length-append a b, p .ends, p .keeps) }
 
 -- room for one byte, as a number
 pub room-one : {old : List ℕ} {at x : ℕ} → Room old at (x ∷ []) → at < length old
@@ -122,5 +122,5 @@ grows f step i (suc k) h = go (λ l. grows f step i k l) (ltb i (suc k)) refl
 -- room for the next step of a text that grows to n steps
 pub step-room : {old : List ℕ} {at : ℕ} {m : ℕ} {mid : List ℕ} (f : ℕ → List ℕ)
     → ((k : ℕ) → length (f k) ≤ length (f (suc k))) → (i n : ℕ) (b : List ℕ)
-    → f (suc i) ≡ f i ++ b → i < n → Put old at (f i) m mid → Room old at (f n) → Room mid m b
-step-room f step i n b e h p r = next p (record { room = omega (arith, r .room, grows f step (suc i) n (omega arith), ap length e) })
+    → f (suc i) ≡ f i ++ b → i < n → PutOver old at (f i) m mid → Room old at (f n) → Room mid m b
+step-room f step i n b e h p r = room-behind p (record { room = omega (arith, r .room, grows f step (suc i) n (omega arith), ap length e) })

@@ -7,7 +7,7 @@ use mathlib.Core.Path.{_≡_}
 use mathlib.Core.List.{List, [], _∷_, _++_}
 use lib.ListN.{length, getD, length-append}
 use Rattle.listing.specs.Digits.{decimal}
-use Rattle.listing.specs.Text.{cells, columnAt, lineAt, lines, header, drawn, densityWord, tracksWord, widthWord}
+use Rattle.listing.specs.Text.{cells, columnAt, lineAt, lines, header, drawingText, densityWord, tracksWord, widthWord}
 use Rattle.listing.specs.Working.{Room}
 use Rattle.listing.proofs.Digits.{three-digits}
 
@@ -69,13 +69,13 @@ module _ (xs : List ℕ) (few : (i : ℕ) → getD xs i 0 < 1000) where
       )
 
   -- a listing of at most 127 columns and tracks with numbers below a thousand
-  drawn-size : (d t w : ℕ) → d < 1000 → t ≤ 127 → w ≤ 127 → length (drawn d t w xs) ≤ 130462
-  unfolding drawn
+  drawn-size : (d t w : ℕ) → d < 1000 → t ≤ 127 → w ≤ 127 → length (drawingText d t w xs) ≤ 130462
+  unfolding drawingText
   drawn-size d t w x h l =
       omega (arith, length-append (header d t w) (lines xs t w), lines-size t w h l, header-size d t w x (omega arith) (omega arith))
 
   -- there is room for it
-  pub drawn-room : (text : List ℕ) (d t w : ℕ) → length text ≡ 131072 → d < 1000 → t ≤ 127 → w ≤ 127 → Room text 0 (drawn d t w xs)
+  pub drawn-room : (text : List ℕ) (d t w : ℕ) → length text ≡ 131072 → d < 1000 → t ≤ 127 → w ≤ 127 → Room text 0 (drawingText d t w xs)
   drawn-room text d t w e x h l = record { room = omega (arith, drawn-size d t w x h l) }
 
 -- at most 64 columns and as many nets open at a gap: at most 127 tracks, 127 columns with the added ones, and 32,385 entries

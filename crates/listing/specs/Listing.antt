@@ -5,10 +5,10 @@ use lib.ListN.{length}
 use Rattle.grid.specs.Channel.{density, tracks, rowsRefused}
 use Rattle.grid.specs.Refusals.{firstRefusal, ifAccepted}
 use Rattle.record.specs.Record.{recordRefused, topRow, bottomRow}
-use Rattle.sweep.specs.Drawing.{width, layout}
+use Rattle.router.specs.Answers.{width, layout}
 use Rattle.listing.specs.declared.Listed.{Listed}
 use Rattle.listing.specs.declared.Listed.the-variants.{Text, Refused}
-use Rattle.listing.specs.Text.{drawn, refusal}
+use Rattle.listing.specs.Text.{drawingText, refusal}
 
 -- the number of an answer, "The number on acceptance is 0", and the bytes of the text, 0 on refusal
 abbrev pub numberOf : Listed → ℕ
@@ -26,7 +26,7 @@ listedBy (suc k) n = Refused (suc k)
 
 -- the text of a channel: its figures and the columns of its drawing
 abbrev pub channelText : (top bottom : List ℕ) → List ℕ
-channelText top bottom = drawn (density top bottom) (tracks top bottom) (width top bottom) (layout top bottom)
+channelText top bottom = drawingText (density top bottom) (tracks top bottom) (width top bottom) (layout top bottom)
 
 module _ (s : List ℕ) where
   -- "Checked from the top down": the number of the record's refusal, else that of its rows, 0 for none; 5 is "in `knee` over 64" columns

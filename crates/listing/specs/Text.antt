@@ -40,8 +40,8 @@ unfoldable pub header : ℕ → ℕ → ℕ → List ℕ
 header d t w = (densityWord ++ decimal d) ++ ((tracksWord ++ decimal t) ++ ((widthWord ++ decimal w) ++ (10 ∷ [])))
 
 -- the listing of a drawing of w columns and t tracks, of a channel of density d
-unfoldable pub drawn : ℕ → ℕ → ℕ → List ℕ → List ℕ
-drawn d t w layout = header d t w ++ lines layout t w
+unfoldable pub drawingText : ℕ → ℕ → ℕ → List ℕ → List ℕ
+drawingText d t w layout = header d t w ++ lines layout t w
 
 -- "On refusal it writes one line, as `refused 7`"
 unfoldable pub refusal : ℕ → List ℕ

@@ -14,12 +14,12 @@ pub record Room (old : List ℕ) (at : ℕ) (new : List ℕ) : Type 0 where
   pub room : at + length new ≤ length old
 
 -- new over the bytes of old from place at on
-unfoldable pub over : List ℕ → ℕ → List ℕ → List ℕ
-over old at new = take at old ++ (new ++ drop (at + length new) old)
+unfoldable pub overwritten : List ℕ → ℕ → List ℕ → List ℕ
+overwritten old at new = take at old ++ (new ++ drop (at + length new) old)
 
 -- the text now, after new was put at a place of the old text, and the place after it
-pub record Put (old : List ℕ) (at : ℕ) (new : List ℕ) (after : ℕ) (now : List ℕ) : Type 0 where
-  pub holds : now ≡ over old at new
+pub record PutOver (old : List ℕ) (at : ℕ) (new : List ℕ) (after : ℕ) (now : List ℕ) : Type 0 where
+  pub holds : now ≡ overwritten old at new
   pub ends : after ≡ at + length new
   pub fits : after ≤ length old
   pub keeps : length now ≡ length old

@@ -1,6 +1,6 @@
 // The listing of a record: the text of its channel's drawing; the line of a refusal; what `knee` writes.
 use record::Reading;
-use sweep::Routed;
+use router::Routed;
 ghost use mathlib.Core.Path.{_≡_};
 ghost use mathlib.Core.List.{_∷_, [], _++_};
 ghost use Prim.Native.Nat.{_+_, _*_, _≤_, _<_};
@@ -10,9 +10,9 @@ ghost use Rattle.grid.specs.Refusals.{ifAccepted};
 ghost use Rattle.record.specs.Record.{laid};
 ghost use Rattle.record.specs.Counts.{Counts};
 ghost use Rattle.listing.specs.Digits.{decimal};
-ghost use Rattle.listing.specs.Text.{cells, columnAt, lineAt, lines, header, drawn, refusal};
+ghost use Rattle.listing.specs.Text.{cells, columnAt, lineAt, lines, header, drawingText, refusal};
 ghost use Rattle.listing.specs.Listing.{numberOf, lengthOf, channelText, refused, textOf, listed, output};
-ghost use Rattle.listing.specs.Working.{Room, Put, Lists};
+ghost use Rattle.listing.specs.Working.{Room, PutOver, Lists};
 
 // The bytes of the text that a call is lent: the longest listing fits.
 pub const ROOM: usize = 131072;
@@ -46,7 +46,7 @@ pub fn length_of(r: Listed) -> usize
 // A byte at a place. Each function here returns the place after what it put.
 fn put_byte(text: &mut [u8], at: usize, b: u8) -> usize
     requires { ⌜ at < length (now text) ⌝ }
-    ensures { λ r. ⌜ Put (now (text .entry)) at (b ∷ []) r (now (text .exit)) ⌝ }
+    ensures { λ r. ⌜ PutOver (now (text .entry)) at (b ∷ []) r (now (text .exit)) ⌝ }
 {
     text[at] = b;
     at + 1
@@ -55,7 +55,7 @@ fn put_byte(text: &mut [u8], at: usize, b: u8) -> usize
 // The bytes of a slice.
 fn put_bytes(text: &mut [u8], at: usize, s: &[u8]) -> usize
     requires { ⌜ at + length (now s) ≤ length (now text) ⌝ }
-    ensures { λ r. ⌜ Put (now (text .entry)) at (now (s .entry)) r (now (text .exit)) ⌝ }
+    ensures { λ r. ⌜ PutOver (now (text .entry)) at (now (s .entry)) r (now (text .exit)) ⌝ }
 {
     let mut end = at;
     let mut i = 0;
@@ -69,7 +69,7 @@ fn put_bytes(text: &mut [u8], at: usize, s: &[u8]) -> usize
 // A number in decimal.
 fn put_number(text: &mut [u8], at: usize, n: usize) -> usize
     requires { ⌜ Room (now text) at (decimal n) ⌝ }
-    ensures { λ r. ⌜ Put (now (text .entry)) at (decimal n) r (now (text .exit)) ⌝ }
+    ensures { λ r. ⌜ PutOver (now (text .entry)) at (decimal n) r (now (text .exit)) ⌝ }
 {
     if n < 10 {
         return put_byte(text, at, 48 + n as u8);
@@ -81,7 +81,7 @@ fn put_number(text: &mut [u8], at: usize, n: usize) -> usize
 // A word and a number.
 fn put_figure(text: &mut [u8], at: usize, word: &[u8], n: usize) -> usize
     requires { ⌜ at + (length (now word) + length (decimal n)) ≤ length (now text) ⌝ }
-    ensures { λ r. ⌜ Put (now (text .entry)) at (now (word .entry) ++ decimal n) r (now (text .exit)) ⌝ }
+    ensures { λ r. ⌜ PutOver (now (text .entry)) at (now (word .entry) ++ decimal n) r (now (text .exit)) ⌝ }
 {
     let end = put_bytes(text, at, word);
     put_number(text, end, n)
@@ -91,7 +91,7 @@ fn put_figure(text: &mut [u8], at: usize, word: &[u8], n: usize) -> usize
 fn put_cells(text: &mut [u8], at: usize, layout: &[u16], q: usize, k: usize) -> usize
     requires { ⌜ q + k ≤ length (now layout) ⌝ }
     requires { ⌜ Room (now text) at (cells (now layout) q k) ⌝ }
-    ensures { λ r. ⌜ Put (now (text .entry)) at (cells (now (layout .entry)) q k) r (now (text .exit)) ⌝ }
+    ensures { λ r. ⌜ PutOver (now (text .entry)) at (cells (now (layout .entry)) q k) r (now (text .exit)) ⌝ }
 {
     let mut end = at;
     let mut i = 0;
@@ -107,7 +107,7 @@ fn put_cells(text: &mut [u8], at: usize, layout: &[u16], q: usize, k: usize) -> 
 fn put_column(text: &mut [u8], at: usize, layout: &[u16], t: usize, q: usize) -> usize
     requires { ⌜ q + (2 * t + 1) ≤ length (now layout) ⌝ }
     requires { ⌜ Room (now text) at (columnAt (now layout) t q) ⌝ }
-    ensures { λ r. ⌜ Put (now (text .entry)) at (columnAt (now (layout .entry)) t q) r (now (text .exit)) ⌝ }
+    ensures { λ r. ⌜ PutOver (now (text .entry)) at (columnAt (now (layout .entry)) t q) r (now (text .exit)) ⌝ }
 {
     let vertical = put_cells(text, at, layout, q, t + 1);
     let bar = put_bytes(text, vertical, b" |");
@@ -118,7 +118,7 @@ fn put_column(text: &mut [u8], at: usize, layout: &[u16], t: usize, q: usize) ->
 fn put_line(text: &mut [u8], at: usize, layout: &[u16], t: usize, c: usize, q: usize) -> usize
     requires { ⌜ q + (2 * t + 1) ≤ length (now layout) ⌝ }
     requires { ⌜ Room (now text) at (lineAt (now layout) t c q) ⌝ }
-    ensures { λ r. ⌜ Put (now (text .entry)) at (lineAt (now (layout .entry)) t c q) r (now (text .exit)) ⌝ }
+    ensures { λ r. ⌜ PutOver (now (text .entry)) at (lineAt (now (layout .entry)) t c q) r (now (text .exit)) ⌝ }
 {
     let number = put_number(text, at, c);
     let colon = put_byte(text, number, 58);
@@ -131,7 +131,7 @@ fn put_lines(text: &mut [u8], at: usize, layout: &[u16], t: usize, w: usize) -> 
     requires { ⌜ w * (2 * t + 1) ≤ length (now layout) ⌝ }
     requires { ⌜ t ≤ 127 ⌝ }
     requires { ⌜ Room (now text) at (lines (now layout) t w) ⌝ }
-    ensures { λ r. ⌜ Put (now (text .entry)) at (lines (now (layout .entry)) t w) r (now (text .exit)) ⌝ }
+    ensures { λ r. ⌜ PutOver (now (text .entry)) at (lines (now (layout .entry)) t w) r (now (text .exit)) ⌝ }
 {
     let each = 2 * t + 1;
     let mut end = at;
@@ -148,7 +148,7 @@ fn put_lines(text: &mut [u8], at: usize, layout: &[u16], t: usize, w: usize) -> 
 // The first line.
 fn put_header(text: &mut [u8], d: usize, t: usize, w: usize) -> usize
     requires { ⌜ Room (now text) 0 (header d t w) ⌝ }
-    ensures { λ r. ⌜ Put (now (text .entry)) 0 (header d t w) r (now (text .exit)) ⌝ }
+    ensures { λ r. ⌜ PutOver (now (text .entry)) 0 (header d t w) r (now (text .exit)) ⌝ }
 {
     let density = put_figure(text, 0, b"density ", d);
     let tracks = put_figure(text, density, b" tracks ", t);
@@ -160,8 +160,8 @@ fn put_header(text: &mut [u8], d: usize, t: usize, w: usize) -> usize
 fn put_listing(layout: &[u16], d: usize, t: usize, w: usize, text: &mut [u8]) -> usize
     requires { ⌜ w * (2 * t + 1) ≤ length (now layout) ⌝ }
     requires { ⌜ t ≤ 127 ⌝ }
-    requires { ⌜ Room (now text) 0 (drawn d t w (now layout)) ⌝ }
-    ensures { λ r. ⌜ Put (now (text .entry)) 0 (drawn d t w (now (layout .entry))) r (now (text .exit)) ⌝ }
+    requires { ⌜ Room (now text) 0 (drawingText d t w (now layout)) ⌝ }
+    ensures { λ r. ⌜ PutOver (now (text .entry)) 0 (drawingText d t w (now (layout .entry))) r (now (text .exit)) ⌝ }
 {
     let end = put_header(text, d, t, w);
     put_lines(text, end, layout, t, w)
@@ -170,7 +170,7 @@ fn put_listing(layout: &[u16], d: usize, t: usize, w: usize, text: &mut [u8]) ->
 // The line of a refusal; how many bytes it has.
 fn put_refusal(number: u16, text: &mut [u8]) -> usize
     requires { ⌜ 14 ≤ length (now text) ⌝ }
-    ensures { λ r. ⌜ Put (now (text .entry)) 0 (refusal number) r (now (text .exit)) ⌝ }
+    ensures { λ r. ⌜ PutOver (now (text .entry)) 0 (refusal number) r (now (text .exit)) ⌝ }
 {
     let end = put_figure(text, 0, b"refused ", number as usize);
     put_byte(text, end, 10)
@@ -193,10 +193,11 @@ fn no_layout() -> [u16; 32385]
 // The listing of a channel of at most 64 columns. The layout is long enough for it.
 fn list_channel(top: &[u16], bottom: &[u16], text: &mut [u8]) -> Listed
     requires { ⌜ length (now text) ≡ 131072 ⌝ }
-    ensures { λ r. ⌜ Lists (rowsRefused (now (top .entry)) (now (bottom .entry)) 64) (channelText (now (top .entry)) (now (bottom .entry))) (now (text .entry)) r (now (text .exit)) ⌝ }
+    ensures { λ r. ⌜ Lists (rowsRefused (now (top .entry)) (now (bottom .entry)) 64)
+        (channelText (now (top .entry)) (now (bottom .entry))) (now (text .entry)) r (now (text .exit)) ⌝ }
 {
     let mut layout = no_layout();
-    let r = sweep::route_within(top, bottom, 64, &mut layout);
+    let r = router::route_within(top, bottom, 64, &mut layout);
     match r {
         Routed::Drawn(f) => Listed::Text(put_listing(&layout, f.density, f.tracks, f.width, text)),
         Routed::Refused(k) => Listed::Refused(k),

@@ -12,7 +12,7 @@ use Rattle.grid.specs.Refusals.{ifAccepted}
 use Rattle.grid.proofs.Answers.{accepted-old}
 use Rattle.record.specs.Record.{word, recordRefused, number, columns, recordRead, row, topRow, bottomRow, laid}
 use Rattle.record.specs.Counts.{Counts}
-use Rattle.record.proofs.Table.{sized, numbered, columns-by, refused-is, channel-is}
+use Rattle.record.proofs.Refusals.{whole-record, numbered, columns-by, refused-is, channel-is}
 
 -- a row has as many numbers as it is asked for
 row-length : (s : List ℕ) (at k : ℕ) → length (row s at k) ≡ k
@@ -76,18 +76,18 @@ answered s r top top′ bottom bottom′ e f g k l =
     (e, (ap number e ∙ numbered s, (f, (g, (columns-by s r e, (counts (columns r) top′ k, counts (columns r) bottom′ l))))))
 
 -- a refusal: the arrays are as they were
-pub refused : (s : List ℕ) (k : ℕ) (top bottom : List ℕ) → k ≡ recordRefused s → (k ≡ 0 → ⊥) → Ensured s (Refused k) top top bottom bottom
-refused s k top bottom e h =
+pub read-refused : (s : List ℕ) (k : ℕ) (top bottom : List ℕ) → k ≡ recordRefused s → (k ≡ 0 → ⊥) → Ensured s (Refused k) top top bottom bottom
+read-refused s k top bottom e h =
     answered s (Refused k) top top bottom bottom (refused-is s k e h) (sym (accepted-old k (laid (topRow s) top) top h))
     (sym (accepted-old k (laid (bottomRow s) bottom) bottom h)) (omega arith) (omega arith)
 
 -- a channel: the arrays hold its rows
-pub accepted : (s : List ℕ) (k n : ℕ) (top top′ bottom bottom′ : List ℕ) → k ≡ recordRefused s → k ≡ 0 → n ≡ word s 4
+pub read-channel : (s : List ℕ) (k n : ℕ) (top top′ bottom bottom′ : List ℕ) → k ≡ recordRefused s → k ≡ 0 → n ≡ word s 4
     → top′ ≡ laid (row s 6 n) top → bottom′ ≡ laid (row s (6 + 2 * n) n) bottom → 256 ≤ length top′ → 256 ≤ length bottom′
     → Ensured s (Channel n) top top′ bottom bottom′
 unfolding topRow bottomRow
-accepted s k n top top′ bottom bottom′ e h f g l a b =
-    let w = sized s k e h in
+read-channel s k n top top′ bottom bottom′ e h f g l a b =
+    let w = whole-record s k e h in
     let c = channel-is s k n e h f in
     answered s (Channel n) top top′ bottom bottom′ c (g ∙ ap (λ (z : Reading). laid (row s 6 (columns z)) top) c)
     (l ∙ ap (λ (z : Reading). laid (row s (6 + 2 * columns z) (columns z)) bottom) c) (omega (arith, w .short, w .exact)) (omega (arith, w .short, w .exact))

@@ -13,7 +13,7 @@ pub enum Reading {
 }
 
 // A byte as a wider number.
-fn wide(b: u8) -> u16
+fn as_word(b: u8) -> u16
     ensures { λ r. ⌜ (r ≡ b) × (r ≤ 255) ⌝ }
 {
     b as u16
@@ -24,8 +24,8 @@ fn word(s: &[u8], i: usize) -> u16
     requires { ⌜ i + 1 < length (now s) ⌝ }
     ensures { λ r. ⌜ r ≡ Record·word (now (s .entry)) i ⌝ }
 {
-    let low = wide(s[i]);
-    let high = wide(s[i + 1]);
+    let low = as_word(s[i]);
+    let high = as_word(s[i + 1]);
     low + 256 * high
 }
 

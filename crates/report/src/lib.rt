@@ -55,11 +55,6 @@ fn blank() -> [NetRecord; 256]
     [none; 256]
 }
 
-// A figure of no net.
-fn zeros() -> [u16; 257] {
-    [0u16; 257]
-}
-
 // The record of a net, from a table for each figure with the nets at their numbers.
 fn record_of(first: &[u16; 257], last: &[u16; 257], pins: &[u16; 257], net: usize) -> NetRecord
     requires { ⌜ net ≤ 256 ⌝ }
@@ -88,11 +83,12 @@ fn gather(first: &[u16; 257], last: &[u16; 257], pins: &[u16; 257]) -> [NetRecor
 
 // The number for a table of `size` records, and the records of an accepted channel.
 fn collect(top: &[u16], bottom: &[u16], size: usize) -> Collected
-    ensures { λ r. ⌜ (r .number ≡ refused (now (top .entry)) (now (bottom .entry)) size) × (r .number ≡ 0 → r .records ≡ netRecords (now (top .entry)) (now (bottom .entry))) ⌝ }
+    ensures { λ r. ⌜ (r .number ≡ refused (now (top .entry)) (now (bottom .entry)) size)
+        × (r .number ≡ 0 → r .records ≡ netRecords (now (top .entry)) (now (bottom .entry))) ⌝ }
 {
-    let mut first = zeros();
-    let mut last = zeros();
-    let mut pins = zeros();
+    let mut first = grid::zeros();
+    let mut last = grid::zeros();
+    let mut pins = grid::zeros();
     let r = grid::net_facts(top, bottom, 256, &mut first, &mut last, &mut pins);
     let RowCheck::Fit(_) = r else {
         return Collected {

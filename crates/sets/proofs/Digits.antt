@@ -12,11 +12,11 @@ pub digit-lt : (x j : ℕ) → digit x j < 2
 unfolding digit
 digit-lt x j = omega arith
 
-pub digit-zero : (x : ℕ) → digit x 0 ≡ x % 2
+digit-zero : (x : ℕ) → digit x 0 ≡ x % 2
 unfolding digit
 digit-zero x = ap (λ (n : ℕ). n % 2) (div-one x)
 
-pub digit-suc : (x j : ℕ) → digit x (suc j) ≡ digit (x / 2) j
+digit-suc : (x j : ℕ) → digit x (suc j) ≡ digit (x / 2) j
 unfolding digit
 digit-suc x j = ap (λ (n : ℕ). n % 2) (ap (λ (n : ℕ). x / n) (pow-succ' 2 j) ∙ sym (div-div-eq-div-mul x 2 (2 ^ j)))
 

@@ -1,6 +1,6 @@
 -- What storing a word, and the trailing zeros of a word, are to the members of a set.
-use mathlib.Core.Path.{_≡_, refl, sym, ap, ap₂, _∙_, subst}
-use mathlib.Core.Bool.{Bool, true, false}
+use mathlib.Core.Path.{_≡_, refl, sym, ap, ap₂, _∙_}
+use mathlib.Core.Bool.{true, false}
 use mathlib.Core.List.{List}
 use Prim.Native.Nat.{ℕ, zero, suc, _+_, _-_, _*_, _/_, _%_, _^_, _≤_, _<_}
 use native.Mathlib.Nat.{lt-of-le-of-lt, add-sub-cancel-left, one-mul, mod-eq-of-lt, div-one, add-zero}
@@ -8,7 +8,7 @@ use native.Mathlib.Decide.{ℕ-discrete, decLt}
 use native.Mathlib.Omega.{arith}
 use lib.ListN.{length, getD, set, replicate}
 use lib.Seq.{getD-set-same, getD-set-other}
-use lib.Dec.{T, eqb}
+use lib.Dec.{eqb}
 use lib.Bits.{bitAnd, bitOr}
 use lib.Pow.{pow-lt, shr-le, shr-shr}
 use lib.Count.{trailingZeros}
@@ -72,9 +72,9 @@ getD-zeros (suc n) zero = refl
 getD-zeros (suc n) (suc i) = getD-zeros n i
 
 -- no member of the words 0
-pub none : (s : List ℕ) → ((w : ℕ) → getD s w 0 ≡ 0) → (k : ℕ) → member s k ≡ false
+pub none-member : (s : List ℕ) → ((w : ℕ) → getD s w 0 ≡ 0) → (k : ℕ) → member s k ≡ false
 unfolding member
-none s h k = ap (λ (x : ℕ). eqb (digit x (k % 64)) 1) (h (k / 64)) ∙ ap (λ (d : ℕ). eqb d 1) (zero-digit (k % 64))
+none-member s h k = ap (λ (x : ℕ). eqb (digit x (k % 64)) 1) (h (k / 64)) ∙ ap (λ (d : ℕ). eqb d 1) (zero-digit (k % 64))
 
 -- a digit that is 1 is below the width
 within : (x m t : ℕ) → x < 2 ^ 64 → digit (x / 2 ^ m) t ≡ 1 → m + t < 64
@@ -94,11 +94,11 @@ module _ (s : List ℕ) (w m : ℕ) (le : m ≤ 64) where
       ap₂ (λ (i j : ℕ). eqb (digit (getD s i 0) j) 1) q r ∙ ap (λ (d : ℕ). eqb d 1) (sym (shr-digit (getD s w 0) m (k - (w * 64 + m))))
 
   -- none where it is 0
-  pub rest-none : getD s w 0 / 2 ^ m ≡ 0 → Clear s (w * 64 + m) (w * 64 + 64)
+  rest-none : getD s w 0 / 2 ^ m ≡ 0 → Clear s (w * 64 + m) (w * 64 + 64)
   rest-none e k a b = rest-at k a b ∙ ap (λ (x : ℕ). eqb (digit x (k - (w * 64 + m))) 1) e ∙ ap (λ (d : ℕ). eqb d 1) (zero-digit (k - (w * 64 + m)))
 
   -- else the lowest is at its trailing zeros
-  pub rest-some : getD s w 0 < 2 ^ 64 → 0 < getD s w 0 / 2 ^ m → w < 8 → Lowest s (w * 64 + m) (w * 64 + m + trailingZeros 64 (getD s w 0 / 2 ^ m))
+  rest-some : getD s w 0 < 2 ^ 64 → 0 < getD s w 0 / 2 ^ m → w < 8 → Lowest s (w * 64 + m) (w * 64 + m + trailingZeros 64 (getD s w 0 / 2 ^ m))
   rest-some f p h =
       let x = getD s w 0 in
       let y = x / 2 ^ m in
@@ -143,10 +143,10 @@ module _ (s : List ℕ) (k w b x : ℕ) (h : k < 512) (e : w ≡ k / 64) (f : b 
   left : getD s w 0 / 2 ^ (b + 1) ≡ x / 2 ^ b / 2 ^ 1
   left = ap (λ (y : ℕ). y / 2 ^ (b + 1)) (sym g) ∙ sym (shr-shr x b 1)
 
-  pub after-none : x / 2 ^ b / 2 ≡ 0 → Clear s (k + 1) ((w + 1) * 64)
-  after-none z j p q = rest-none s w (b + 1) (omega arith) (left ∙ z) j (omega arith) (omega arith)
+  pub above-none : x / 2 ^ b / 2 ≡ 0 → Clear s (k + 1) ((w + 1) * 64)
+  above-none z j p q = rest-none s w (b + 1) (omega arith) (left ∙ z) j (omega arith) (omega arith)
 
-  pub after-some : x < 2 ^ 64 → 0 < x / 2 ^ b / 2 → Lowest s (k + 1) (k + 1 + trailingZeros 64 (x / 2 ^ b / 2))
-  after-some z p =
+  pub above-some : x < 2 ^ 64 → 0 < x / 2 ^ b / 2 → Lowest s (k + 1) (k + 1 + trailingZeros 64 (x / 2 ^ b / 2))
+  above-some z p =
       let at : w * 64 + (b + 1) ≡ k + 1 = omega arith in
       rw (at, left) at (rest-some s w (b + 1) (omega arith) (rw g at z) (rw (sym left) at p) (omega arith))

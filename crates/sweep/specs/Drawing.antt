@@ -1,11 +1,13 @@
--- The two sweeps of document 01: the tracks in each gap, the columns, the columns added, the width and the layout.
+-- The sweeps of document 01 on t tracks: the tracks in each gap, the columns, the columns added, the width and the layout.
 use Prim.Native.Nat.{ℕ, zero, suc, _+_}
 use mathlib.Core.Bool.{Bool, true, false, not, _&&_}
 use mathlib.Core.List.{List, [], _++_}
 use lib.Dec.{eqb, ltb}
 use lib.ListN.{length, getD, replicate}
 use Rattle.grid.specs.Channel
-use Rattle.grid.specs.Channel.{pick, count, left, right, twoPin, tracks}
+use Rattle.grid.specs.declared.Family.{Family}
+use Rattle.grid.specs.declared.Family.the-variants.{TwoPin, ManyPin}
+use Rattle.grid.specs.Channel.{pick, count, left, right, family}
 use Rattle.sweep.specs.declared.Action.{Action}
 use Rattle.sweep.specs.declared.Pin.{Pin}
 use Rattle.sweep.specs.declared.Free.{Free}
@@ -13,6 +15,7 @@ use Rattle.sweep.specs.declared.Joint.{Joint}
 use Rattle.sweep.specs.Tracks
 use Rattle.sweep.specs.Tracks.{lowest, second, highest, many, lowestNet, clear, verticals, after}
 use Rattle.sweep.specs.Rules
+use Rattle.sweep.specs.Rules.{act, noTrack}
 use Rattle.sweep.specs.TwoPin
 use Rattle.sweep.specs.TwoPin.{chooseTwo}
 use Rattle.sweep.specs.ManyPin
@@ -47,21 +50,22 @@ module _ (top bottom : List ℕ) where
       pick (eqb v 0) noPin
       (record { net = v; kind = kindBy (ltb 0 (left top bottom c v)) (later (suc c) v); low = lowest v tr; high = highest v tr; many = many v tr })
 
-  -- "It is stretched if all its pins lie left and it still has strands": of a net v on a track
-  unfoldable pub stretchedAt : ℕ → ℕ → Bool
-  stretchedAt c v = not (eqb v 0) && not (later c v)
+  -- "It is stretched if all its pins lie left and it still has strands": of a net v on a track. Document 01 calls such a net stretched; its source, document
+  -- 000, calls it extended, and so do the names here
+  unfoldable pub extendedAt : ℕ → ℕ → Bool
+  extendedAt c v = not (eqb v 0) && not (later c v)
 
   -- "open with three or more strands": of a net v on a track
   unfoldable pub wideAt : ℕ → List ℕ → ℕ → Bool
   wideAt c tr v = later c v && ltb 2 (many v tr)
 
   -- "take the lowest-numbered such net"
-  unfoldable pub stretchedNet : ℕ → List ℕ → ℕ
-  stretchedNet c tr = lowestNet (stretchedAt c) tr
+  unfoldable pub extendedNet : ℕ → List ℕ → ℕ
+  extendedNet c tr = lowestNet (extendedAt c) tr
 
   -- "A net N is stretched (lowest number), or else open with three or more strands (lowest number)."
-  unfoldable pub crowdedNet : ℕ → List ℕ → ℕ
-  crowdedNet c tr = pick (eqb (stretchedNet c tr) 0) (lowestNet (wideAt c tr) tr) (stretchedNet c tr)
+  unfoldable pub netToJoin : ℕ → List ℕ → ℕ
+  netToJoin c tr = pick (eqb (extendedNet c tr) 0) (lowestNet (wideAt c tr) tr) (extendedNet c tr)
 
   -- net v as the net of rule 2 in column c + 1 (0: none)
   unfoldable pub jointOf : ℕ → List ℕ → ℕ → Joint
@@ -69,27 +73,35 @@ module _ (top bottom : List ℕ) where
       pick (eqb v 0) noJoint
       (record { net = v; low = lowest v tr; second = second v tr; high = highest v tr; later = later (suc c) v })
 
-  -- what column c + 1 does
+-- THE SWEEP on t tracks
+module _ (t : ℕ) (top bottom : List ℕ) where
+  -- what column c + 1 does in the sweep of a family: "Channels of two-pin nets", "Channels with a net of three or more pins"
+  unfoldable pub actionOf : Family → ℕ → List ℕ → Action
+  actionOf TwoPin c tr =
+      let A = pinAt top bottom c tr (getD top c 0) in
+      let B = pinAt top bottom c tr (getD bottom c 0) in
+      chooseTwo t A B (freeOf tr) (jointOf top bottom c tr (extendedNet top bottom c tr))
+  actionOf ManyPin c tr =
+      let A = pinAt top bottom c tr (getD top c 0) in
+      let B = pinAt top bottom c tr (getD bottom c 0) in
+      chooseMany t A B (freeOf tr) (jointOf top bottom c tr (netToJoin top bottom c tr)) (later top bottom (suc c) (getD top c 0))
+
+  -- what column c + 1 does, by the channel's family
   unfoldable pub action : ℕ → List ℕ → Action
-  action c tr =
-      let A = pinAt c tr (getD top c 0) in
-      let B = pinAt c tr (getD bottom c 0) in
-      pick (twoPin top bottom)
-      (chooseTwo (tracks top bottom) A B (freeOf tr) (jointOf c tr (stretchedNet c tr)))
-      (chooseMany (tracks top bottom) A B (freeOf tr) (jointOf c tr (crowdedNet c tr)) (later (suc c) (getD top c 0)))
+  action = actionOf (family top bottom)
 
   -- the tracks in gap c; in gap 0 all are free
   unfoldable pub gap : ℕ → List ℕ
-  gap zero = replicate (tracks top bottom) 0
+  gap zero = replicate t 0
   gap (suc c) = after (action c (gap c)) (gap c)
 
   -- the entries of the columns 1 to c: each column's "vertical edges from row 0 upward, then the horizontal edges leaving to the right"
   unfoldable pub drawn : ℕ → List ℕ
   drawn zero = []
-  drawn (suc c) = drawn c ++ (verticals (tracks top bottom) (action c (gap c)) ++ gap (suc c))
+  drawn (suc c) = drawn c ++ (verticals t (action c (gap c)) ++ gap (suc c))
 
--- THE COLUMNS ADDED. Here g are the tracks in the gap after column n
--- net v still has strands there: it is stretched
+-- THE COLUMNS ADDED: here g are the tracks in the gap after column n
+-- net v still has strands there: it is extended
 unfoldable pub remains : List ℕ → ℕ → Bool
 remains g v = ltb 0 (many v g)
 
@@ -101,34 +113,25 @@ rest g (suc v) = clear (suc v) (rest g v)
 -- the action that joins the strands of net v on the tracks tr, and nothing else
 unfoldable pub joining : List ℕ → ℕ → Action
 joining tr v =
-    record {
-      bottom = 0;
-      low = 0;
-      middle = v;
-      start = lowest v tr;
-      stop = highest v tr;
-      top = 0;
-      high = highest v tr;
-      ended = v;
-      closed = 0;
-      track1 = 0;
-      net1 = 0;
-      track2 = 0;
-      net2 = 0;
-      track3 = 0;
-      net3 = 0;
-    }
+    act
+    (record { bottom = 0; low = 0; start = lowest v tr; middle = v; stop = highest v tr; high = highest v tr; top = 0 })
+    v
+    0
+    noTrack
+    noTrack
+    noTrack
 
 -- "After column n, one column is added for each stretched net, lowest number first, joining its tracks": the columns of the nets 1 to v, on t tracks
 unfoldable pub added : ℕ → List ℕ → ℕ → List ℕ
 added t g zero = []
 added t g (suc v) = added t g v ++ pick (remains g (suc v)) (verticals t (joining (rest g v) (suc v)) ++ rest g (suc v)) []
 
-module _ (top bottom : List ℕ) where
+-- THE DRAWING on t tracks
+module _ (t : ℕ) (top bottom : List ℕ) where
   -- "its width is n plus the columns that the sweep below adds after column n"
   unfoldable pub width : ℕ
-  width = let g = gap top bottom (length top) in length top + count (remains g) 256
+  width = let g = gap t top bottom (length top) in length top + count (remains g) 256
 
   -- the drawing: the columns 1 to n, then the columns added
   unfoldable pub layout : List ℕ
-  layout = let g = gap top bottom (length top) in drawn top bottom (length top) ++ added (tracks top bottom) g 256
+  layout = let g = gap t top bottom (length top) in drawn t top bottom (length top) ++ added t g 256

@@ -1,11 +1,8 @@
--- What the customer must believe of the sweeps.
+-- What the customer must believe of the sweeps: `Tracks` (strands, and what an action does to them), `Rules` (the actions), `TwoPin` and `ManyPin` (which
+-- action a column takes), `Drawing` (gaps, columns, width and layout). `Working` serves laws and private functions alone.
 pub mod Tracks
 pub mod Rules
 pub mod TwoPin
 pub mod ManyPin
 pub mod Drawing
-pub mod Answers
-pub mod Promise
-pub mod Table
-pub mod Applies
-pub mod State
+pub mod Working

@@ -1,9 +1,11 @@
 -- Document 01: the actions that the rules of both sweeps use.
 -- A is the column's top pin, B its bottom pin, f the two lowest free tracks, N the net of rule 2.
 use Prim.Native.Nat.{ℕ, zero, suc}
-use mathlib.Core.Bool.{Bool, true, false}
+use mathlib.Core.Bool.{Bool}
 use lib.Dec.{eqb, ltb}
 use Rattle.grid.specs.Channel.{pick}
+use Rattle.grid.specs.declared.Segments.{Segments}
+use Rattle.sweep.specs.declared.Gift.{Gift}
 use Rattle.sweep.specs.declared.Action.{Action}
 use Rattle.sweep.specs.declared.Pin.{Pin}
 use Rattle.sweep.specs.declared.Free.{Free}
@@ -20,34 +22,29 @@ kindOf (suc zero) = starts
 kindOf (suc (suc zero)) = continues
 kindOf (suc (suc (suc k))) = ends
 
--- the bottom net b up to row q, the top net a down to row p; the strands of e and c end; then a track for a net, three times (track 0: none)
-abbrev pub pinsTo : (b q a p e c t1 n1 t2 n2 t3 n3 : ℕ) → Action
-pinsTo b q a p e c t1 n1 t2 n2 t3 n3 =
-    record {
-      bottom = b;
-      low = q;
-      middle = 0;
-      start = q;
-      stop = q;
-      top = a;
-      high = p;
-      ended = e;
-      closed = c;
-      track1 = t1;
-      net1 = n1;
-      track2 = t2;
-      net2 = n2;
-      track3 = t3;
-      net3 = n3;
-    }
+-- the wires of two pins: the bottom net b up to row q, the top net a down to row p
+abbrev pub pins : (b q a p : ℕ) → Segments
+pins b q a p = record { bottom = b; low = q; start = q; middle = 0; stop = q; high = p; top = a }
+
+-- track y goes to net v
+abbrev pub goes : (y v : ℕ) → Gift
+goes y v = record { track = y; net = v }
+
+-- no track
+abbrev pub noTrack : Gift
+noTrack = goes 0 0
+
+-- wires are drawn, the strands of the nets e and c end (0: none), and three tracks are given
+abbrev pub act : (wires : Segments) (e c : ℕ) (g1 g2 g3 : Gift) → Action
+act w e c g1 g2 g3 = record { wires = w; ended = e; closed = c; gift1 = g1; gift2 = g2; gift3 = g3 }
 
 -- "No pins: all straight."
 abbrev pub straight : Action
-straight = pinsTo 0 0 0 0 0 0 0 0 0 0 0 0
+straight = act (pins 0 0 0 0) 0 0 noTrack noTrack noTrack
 
 -- "a vertical from row 0 to t + 1" of net v: its strands end, and it leaves on track y (0: it does not)
 abbrev pub full : (t v y : ℕ) → Action
-full t v y = pinsTo v (suc t) v (suc t) v 0 y v 0 0 0 0
+full t v y = act (pins v (suc t) v (suc t)) v 0 (goes y v) noTrack noTrack
 
 -- track y for net v, and none where v is 0
 abbrev pub taken : (v y : ℕ) → ℕ
@@ -58,47 +55,37 @@ taken v y = pick (eqb v 0) 0 y
 -- a and b are here the nets of the top and the bottom pin
 abbrev pub joinNet : Joint → (a b : ℕ) → Action
 joinNet N a b =
-    record {
-      bottom = b;
-      low = N .low;
-      middle = N .net;
-      start = N .low;
-      stop = N .high;
-      top = a;
-      high = N .high;
-      ended = N .net;
-      closed = 0;
-      track1 = pick (eqb b (N .net)) 0 (taken b (N .low));
-      net1 = b;
-      track2 = pick (eqb a (N .net)) 0 (taken a (N .high));
-      net2 = a;
-      track3 = pick (N .later) (N .second) 0;
-      net3 = N .net;
-    }
+    act
+    (record { bottom = b; low = N .low; start = N .low; middle = N .net; stop = N .high; high = N .high; top = a })
+    (N .net)
+    0
+    (goes (pick (eqb b (N .net)) 0 (taken b (N .low))) b)
+    (goes (pick (eqb a (N .net)) 0 (taken a (N .high))) a)
+    (goes (pick (N .later) (N .second) 0) (N .net))
 
 -- "one pin takes the lowest free track": the top pin of net a, the bottom pin of net b
 abbrev pub topTakesFree : Free → (a : ℕ) → Action
-topTakesFree f a = pinsTo 0 0 a (f .first) 0 0 (f .first) a 0 0 0 0
+topTakesFree f a = act (pins 0 0 a (f .first)) 0 0 (goes (f .first) a) noTrack noTrack
 
 abbrev pub bottomTakesFree : Free → (b : ℕ) → Action
-bottomTakesFree f b = pinsTo b (f .first) 0 (f .first) 0 0 (f .first) b 0 0 0 0
+bottomTakesFree f b = act (pins b (f .first) 0 (f .first)) 0 0 (goes (f .first) b) noTrack noTrack
 
 -- "of two pins the top takes the higher of the two lowest free"
 abbrev pub bothTakeFree : Free → (a b : ℕ) → Action
-bothTakeFree f a b = pinsTo b (f .first) a (f .second) 0 0 (f .first) b (f .second) a 0 0
+bothTakeFree f a b = act (pins b (f .first) a (f .second)) 0 0 (goes (f .first) b) (goes (f .second) a) noTrack
 
 -- "An ending pin alone joins its strand. With a starting pin opposite, the starting net takes the ended net's track"; "The top net joins all strands up to
 -- its pin, and the bottom pin's net adds the lowest of them"
 abbrev pub topEnds : (A B : Pin) → Action
-topEnds A B = pinsTo (B .net) (A .low) (A .net) (A .low) (A .net) 0 (taken (B .net) (A .low)) (B .net) 0 0 0 0
+topEnds A B = act (pins (B .net) (A .low) (A .net) (A .low)) (A .net) 0 (goes (taken (B .net) (A .low)) (B .net)) noTrack noTrack
 
 -- "mirrored, the bottom net joins down and the top pin's net adds the highest"
 abbrev pub bottomEnds : (A B : Pin) → Action
-bottomEnds A B = pinsTo (B .net) (B .high) (A .net) (B .high) (B .net) 0 (taken (A .net) (B .high)) (A .net) 0 0 0 0
+bottomEnds A B = act (pins (B .net) (B .high) (A .net) (B .high)) (B .net) 0 (goes (taken (A .net) (B .high)) (A .net)) noTrack noTrack
 
 -- "If both end and all the bottom net's strands lie below all the top net's, both join"
 abbrev pub bothJoin : (A B : Pin) → Action
-bothJoin A B = pinsTo (B .net) (B .high) (A .net) (A .low) (A .net) (B .net) 0 0 0 0 0 0
+bothJoin A B = act (pins (B .net) (B .high) (A .net) (A .low)) (A .net) (B .net) noTrack noTrack noTrack
 
 -- "all the bottom net's strands lie below all the top net's"
 abbrev pub liesBelow : (A B : Pin) → Bool

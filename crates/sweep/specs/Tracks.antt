@@ -1,11 +1,12 @@
 -- Document 01, "Words of the sweep": the tracks in a gap, the strands of a net, and what an action does to them and draws.
 -- The tracks are a list of length t: track y stands at index y - 1, and holds the number of its net, or 0 for a free track.
 use Prim.Native.Nat.{ℕ, zero, suc, min}
-use mathlib.Core.Bool.{Bool, true, false}
+use mathlib.Core.Bool.{Bool}
 use mathlib.Core.List.{List, [], _∷_, map}
-use lib.Dec.{eqb, ltb}
+use lib.Dec.{eqb}
 use lib.ListN.{set, length, drop}
 use Rattle.grid.specs.Channel.{pick}
+use Rattle.grid.specs.Segments.{segment}
 use Rattle.sweep.specs.declared.Action.{Action}
 
 -- "A net's strands are its tracks in the gap left of the column": those of net v, lowest first; of 0: the free tracks. The list begins at track y
@@ -62,16 +63,12 @@ clear v tr = map (λ x. pick (eqb x v) 0 x) tr
 
 -- the tracks after an action, in the gap right of the column. "Untouched strands run straight."
 unfoldable pub after : Action → List ℕ → List ℕ
-after x tr = give (x .track3) (x .net3) (give (x .track2) (x .net2) (give (x .track1) (x .net1) (clear (x .closed) (clear (x .ended) tr))))
-
--- the vertical edge between the rows y and y + 1
-unfoldable pub vertical : Action → ℕ → ℕ
-vertical x y =
-    pick (ltb y (x .low)) (x .bottom)
-    (pick (ltb y (x .start)) 0
-    (pick (ltb y (x .stop)) (x .middle)
-    (pick (ltb y (x .high)) 0
-    (x .top))))
+after x tr =
+    give (x .gift3 .track) (x .gift3 .net)
+    (give (x .gift2 .track) (x .gift2 .net)
+    (give (x .gift1 .track) (x .gift1 .net)
+    (clear (x .closed)
+    (clear (x .ended) tr))))
 
 -- f y, f (y + 1), ..: k of them
 unfoldable pub listed : ℕ → ℕ → (ℕ → ℕ) → List ℕ
@@ -80,4 +77,4 @@ listed (suc k) y f = f y ∷ listed k (suc y) f
 
 -- the t + 1 vertical entries of a column
 unfoldable pub verticals : ℕ → Action → List ℕ
-verticals t x = listed (suc t) 0 (vertical x)
+verticals t x = listed (suc t) 0 (segment (x .wires))

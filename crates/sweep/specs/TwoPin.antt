@@ -1,7 +1,7 @@
 -- Document 01, "Channels of two-pin nets (t = d)": the rules. "The first rule that fits is used."
--- A is the column's top pin, B its bottom pin, f the two lowest free tracks, N the lowest-numbered stretched net (net 0: none).
+-- A is the column's top pin, B its bottom pin, f the two lowest free tracks, N the lowest-numbered extended net (net 0: none).
 use Prim.Native.Nat.{ℕ}
-use mathlib.Core.Bool.{true, false, not, _&&_}
+use mathlib.Core.Bool.{not, _&&_}
 use lib.Dec.{eqb}
 use Rattle.grid.specs.Channel.{pick}
 use Rattle.sweep.specs.declared.Action.{Action}

@@ -1,5 +1,5 @@
 -- `checker::check` meets its contract: the rows' number, or the answer on the drawing with the table of their pins.
-use Rattle.checker.proofs.Answers.{check-promise, rows-refused, known, rows-accepted}
+use Rattle.checker.proofs.Answers.{check-promise, refused-checked, known, accepted-checked}
 use borrow.Author.Needs.{needs}
 use Rattle.checker.proofs.check.Statement.{statement}
 use Rattle.checker.proofs.check.Tie as tie
@@ -33,7 +33,7 @@ returns c =
     let a = c .before .before .before .before .before .before .before .before .before .before .before .before .before .before .args in
     let r = c .before .before .before .before .net-facts in
     check-promise (a .top .now) (a .bottom .now) (a .w) (a .t) (a .layout .now) _
-    (rows-refused (a .top .now) (a .bottom .now) (a .w) (a .t) (a .layout .now) _ (r .result) _ _ (r .ensures .0)
+    (refused-checked (a .top .now) (a .bottom .now) (a .w) (a .t) (a .layout .now) _ (r .result) _ _ (r .ensures .0)
     (c .before .before .enum-told2 .given .1) (c .before .number-of .ensures) (c .refuse .ensures))
 
 check-drawing-requires : tie.Need-check-drawing-requires
@@ -47,7 +47,7 @@ returns-2 c =
     let a = c .before .before .before .before .before .before .before .before .before .before .before .before .before .before .args in
     let r = c .before .before .before .before .net-facts in
     check-promise (a .top .now) (a .bottom .now) (a .w) (a .t) (a .layout .now) _
-    (rows-accepted (a .top .now) (a .bottom .now) (r .result) _ (r .ensures .0) (c .before .before .enum-told .given .1) (a .w) (a .t)
+    (accepted-checked (a .top .now) (a .bottom .now) (r .result) _ (r .ensures .0) (c .before .before .enum-told .given .1) (a .w) (a .t)
     (a .layout .now) _ (c .check-drawing .ensures))
 
 pub check-spec : {M : Type 1} → statement M

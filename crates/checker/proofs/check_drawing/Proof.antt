@@ -1,6 +1,7 @@
 -- `checker::check_drawing` meets its contract: the answer at each of its ways out.
 use native.Mathlib.Omega.{arith}
-use Rattle.checker.proofs.Answers.{product-small, narrow, too-wide, too-high, wrong-size, sized}
+use Rattle.checker.proofs.Limits.{few-entries}
+use Rattle.checker.proofs.Answers.{narrow, too-wide, too-high, wrong-size, sized}
 use borrow.Author.Needs.{needs}
 use Rattle.checker.proofs.check_drawing.Statement.{statement}
 use Rattle.checker.proofs.check_drawing.Tie as tie
@@ -41,7 +42,7 @@ add-if4 : tie.Need-add-if4
 add-if4 c = search needs
 
 mul-if4-2 : tie.Need-mul-if4-2
-mul-if4-2 c = omega (arith, product-small _ _ (c .before .if2 .left) (c .if3 .left))
+mul-if4-2 c = omega (arith, few-entries _ _ (c .before .if2 .left) (c .if3 .left))
 
 refuse-requires-4 : tie.Need-refuse-requires-4
 refuse-requires-4 c κs = search needs

@@ -1,5 +1,5 @@
 -- `checker::check_entries` meets its contract: the answer at each of its ways out.
-use Rattle.checker.proofs.Answers.{entry-at, drawn, pin-at, last-at, split-at, all-passed}
+use Rattle.checker.proofs.Answers.{entry-at, within, pin-at, last-at, pieces-at, all-passed}
 use borrow.Author.Needs.{needs}
 use Rattle.checker.proofs.check_entries.Statement.{statement}
 use Rattle.checker.proofs.check_entries.Tie as tie
@@ -48,7 +48,7 @@ find-split-requires : tie.Need-find-split-requires
 find-split-requires c κs =
     let start = c .before .before .before .before .before .before .before .before .before in
     let a = start .args in
-    drawn (a .top .now) (a .bottom .now) (a .w) (a .t) (a .layout .now) _ (c .before .before .before .before .before .find-strange .ensures)
+    within (a .top .now) (a .bottom .now) (a .w) (a .t) (a .layout .now) _ (c .before .before .before .before .before .find-strange .ensures)
     (c .before .before .before .before .if1 .left) _ (start .pre .0) (start .pre .1 .0) (start .pre .1 .1 .0) (start .pre .1 .1 .1)
 
 refuse-requires-4 : tie.Need-refuse-requires-4
@@ -58,7 +58,7 @@ returns-4 : tie.Need-returns-4
 returns-4 c =
     let start = c .before .before .before .before .before .before .before .before .before .before .before .before in
     let a = start .args in
-    split-at (a .top .now) (a .bottom .now) (a .w) (a .t) (a .layout .now) _
+    pieces-at (a .top .now) (a .bottom .now) (a .w) (a .t) (a .layout .now) _
     (c .before .before .before .before .before .before .before .before .find-strange .ensures)
     (c .before .before .before .before .before .before .before .if1 .left) _ (c .before .before .before .before .before .before .find-pin .ensures)
     (c .before .before .before .before .before .if2 .left) _ (c .before .before .before .before .find-last .ensures)

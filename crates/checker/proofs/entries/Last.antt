@@ -12,8 +12,8 @@ use native.Mathlib.Nat.{mod-lt, div-add-mod'}
 use Rattle.grid.specs.Channel.{bit}
 use Rattle.grid.proofs.Tests.{eq-eqb, ne-eqb, eqb-true, lt-ltb, ltb-true}
 use Rattle.checker.specs.Check.{lastEdge, leavesLast}
-use Rattle.checker.specs.Pieces.Edges.{column-of, entry-of}
-use Rattle.checker.proofs.Lowest.{NoneBelow}
+use Rattle.grid.proofs.Drawings.Flat.{column-of, entry-of}
+use Rattle.checker.proofs.Least.{NoneBelow}
 
 -- only an edge of the last column after its vertical entries is one
 not-last-edge : (w t x i e : ℕ) → (suc x ≡ w → t < i → e ≡ 0) → lastEdge w t x i e ≡ false

@@ -1,5 +1,5 @@
 -- Entries that are a column's first or last vertical one and not its pin.
-use Prim.Native.Nat.{ℕ, _+_, _*_, _-_, _≤_, _<_}
+use Prim.Native.Nat.{ℕ, _+_, _*_, _-_, _<_}
 use mathlib.Core.Path.{_≡_, refl, sym, _∙_, ap}
 use mathlib.Core.Logic.{_≢_, _⊎_, inl, inr, by-cases}
 use mathlib.Core.Bool.{Bool, true, false, not, _&&_, _||_}
@@ -8,12 +8,11 @@ use lib.ListN.{getD}
 use lib.Dec.{eqb}
 use native.Mathlib.Omega.{arith}
 use native.Mathlib.Decide.{ℕ-discrete, decLt}
-use native.Mathlib.Nat.{mul-le-mul-right}
 use Rattle.grid.specs.Channel.{bit}
 use Rattle.grid.proofs.Tests.{eq-eqb, ne-eqb, eqb-true, eqb-false, not-true, and-true, or-false}
 use Rattle.checker.specs.Check.{pinWrong, mispinned}
-use Rattle.checker.specs.Pieces.Edges.{column-of, entry-of}
-use Rattle.checker.proofs.Lowest.{NoneBelow}
+use Rattle.grid.proofs.Drawings.Flat.{column-of, entry-of}
+use Rattle.checker.proofs.Least.{NoneBelow}
 
 -- an entry that equals the pins that it has to equal
 pinned-in : (t a b e i : ℕ) → (i ≡ 0 → e ≡ b) → (i ≡ t → e ≡ a) → pinWrong t a b e i ≡ false
@@ -88,19 +87,6 @@ module _ (top bottom : List ℕ) (t : ℕ) (D : List ℕ) where
             pinned-at k x (k - b) (omega arith) (omega arith) (λ z. ap (λ (j : ℕ). getD D j 0) (omega arith) ∙ lo)
             (λ z. ap (λ (j : ℕ). getD D j 0) (omega arith) ∙ hi));
       }
-
--- a column lies within the drawing
-pub column-inside : (w t x b n : ℕ) → x < w → b ≡ x * (2 * t + 1) → n ≡ w * (2 * t + 1) → b + (2 * t + 1) ≤ n
-column-inside w t x b n l e m = omega (arith, mul-le-mul-right (2 * t + 1) l)
-
--- after the last column the drawing is passed
-pub columns-all : (w t x b n : ℕ) → w ≤ x → b ≡ x * (2 * t + 1) → n ≡ w * (2 * t + 1) → n ≤ b
-columns-all w t x b n l e m = omega (arith, mul-le-mul-right (2 * t + 1) l)
-
--- the column of a position in the drawing
-pub column-below : (w t x i : ℕ) → x * (2 * t + 1) + i < w * (2 * t + 1) → x < w
-column-below w t x i l =
-    by-cases (decLt x w) (λ z. z) (λ z. let k : w ≤ x = omega arith in absurd (omega (arith, mul-le-mul-right (2 * t + 1) k)))
 
 -- an entry that is not a pin that it has to equal
 pub wrong-pin : (t a b e i : ℕ) → pinWrong t a b e i ≡ true → ((i ≡ 0) × (e ≢ b)) ⊎ ((i ≡ t) × (e ≢ a))

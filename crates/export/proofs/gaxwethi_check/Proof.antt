@@ -4,7 +4,7 @@ use mathlib.Core.Path.{_≡_, ap, _∙_}
 use Rattle.checker.specs.declared.Checked.{Checked}
 use Rattle.checker.specs.Check.{numberOf, placeOf}
 use Rattle.export.specs.declared.CheckResult.{CheckResult}
-use Rattle.export.specs.Export.{checkOf}
+use Rattle.export.specs.Export.{faultOf}
 use borrow.Author.Needs.{needs}
 use Rattle.export.proofs.gaxwethi_check.Statement.{statement}
 use Rattle.export.proofs.gaxwethi_check.Tie as tie
@@ -14,8 +14,8 @@ abbrev result : (number place : ℕ) → CheckResult
 result k p = record { number = k; place = p }
 
 -- the number and the place of an answer make its result
-made : (a b : Checked) (k p : ℕ) → a ≡ b → k ≡ numberOf a → p ≡ placeOf a → result k p ≡ checkOf b
-made a b k p e f g = ap (λ (z : ℕ). result z p) f ∙ ap (λ (z : ℕ). result (numberOf a) z) g ∙ ap checkOf e
+made : (a b : Checked) (k p : ℕ) → a ≡ b → k ≡ numberOf a → p ≡ placeOf a → result k p ≡ faultOf b
+made a b k p e f g = ap (λ (z : ℕ). result z p) f ∙ ap (λ (z : ℕ). result (numberOf a) z) g ∙ ap faultOf e
 
 check-requires : tie.Need-check-requires
 check-requires c κs = search needs

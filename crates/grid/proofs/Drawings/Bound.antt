@@ -1,5 +1,5 @@
 -- A solution has at least as many tracks as the density. Assumes nothing.
-use Prim.Native.Nat.{ℕ, zero, suc, _+_, _-_, _≤_, _<_}
+use Prim.Native.Nat.{ℕ, suc, _+_, _≤_, _<_}
 use mathlib.Core.Path.{_≡_, _∙_}
 use mathlib.Core.Logic.{_≢_, inl, inr}
 use mathlib.Core.Bool.{true}
@@ -7,10 +7,10 @@ use mathlib.Core.List.{List}
 use lib.ListN.{length, drop, length-take, length-drop}
 use native.Mathlib.Omega.{arith}
 use native.Mathlib.Decide.{decLt}
-use Rattle.grid.specs.Channel.{times, isOpen, openAt, largest, density}
+use Rattle.grid.specs.Channel.{times, isOpen, openAt, density}
 use Rattle.grid.specs.Grid.{Linked, here, up, across, back, join, Ends, low, verticalOf, horizontalOf, Solution, columnOf}
 use Rattle.grid.proofs.Counting.{holds-times, at-below, pigeonhole}
-use Rattle.grid.proofs.Rows.{HasPin, left-at, right-at, open-sides}
+use Rattle.grid.proofs.Rows.{HasPin, left-at, right-at, open-sides, density-most}
 
 -- where no entry N leaves column c, what N links lies on one side of the gap after it
 pub stays : {v h : ℕ → ℕ → ℕ} {N x y x′ y′ : ℕ} (c : ℕ) → ((j : ℕ) → h c j ≢ N) → Linked v h N x y x′ y′
@@ -32,7 +32,7 @@ module _ (top bottom : List ℕ) (w t : ℕ) (D : List ℕ) (same : length top �
   pin-end N x n (inr e) = (0, low (S .bottomPins x (omega (arith, S .wide, at-below bottom x N n e)) ∙ e))
 
   -- a net that is open at the gap after a column has an entry that leaves it: else its pins on both sides were not linked
-  pub crosses : (c N : ℕ) → N ≢ 0 → isOpen top bottom (suc c) N ≡ true → 0 < times N (leaving D t c)
+  crosses : (c N : ℕ) → N ≢ 0 → isOpen top bottom (suc c) N ≡ true → 0 < times N (leaving D t c)
   unfolding horizontalOf
   crosses c N n o = go (decLt 0 (times N (leaving D t c)))
     where
@@ -52,13 +52,6 @@ module _ (top bottom : List ℕ) (w t : ℕ) (D : List ℕ) (same : length top �
       let s : length (leaving D t c) ≤ t = simp (length-drop, length-take) (omega arith) in
       omega (arith, pigeonhole (isOpen top bottom (suc c)) (leaving D t c) 256 (λ v o. crosses c (suc v) (omega arith) o))
 
-  -- and so is the largest count of them
-  largest-le : (k : ℕ) → largest top bottom k ≤ t
-  unfolding largest
-  largest-le zero = omega arith
-  largest-le (suc k) = omega (arith, largest-le k, open-le k)
-
   -- NO SOLUTION HAS FEWER TRACKS THAN THE DENSITY
   pub density-le : density top bottom ≤ t
-  unfolding density
-  density-le = largest-le (length top - 1)
+  density-le = density-most top bottom t open-le

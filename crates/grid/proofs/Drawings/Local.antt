@@ -29,13 +29,13 @@ carry {L} {U} {R} {N} ins ups = record { pair = λ a b. inr (all a, all b) }
     all (goes {j} e) = leaves-on j e
 
 -- all that N has here lies in one run, from row lo to row hi
-pub within : {L U R : ℕ → ℕ} {N : ℕ} (lo hi : ℕ)
+pub one-run : {L U R : ℕ → ℕ} {N : ℕ} (lo hi : ℕ)
     → ((y : ℕ) → lo ≤ y → y < hi → U y ≡ N)
     → ((j : ℕ) → L j ≡ N → (lo ≤ suc j) × (suc j ≤ hi))
     → ((y : ℕ) → U y ≡ N → (lo ≤ y) × (y < hi))
     → ((j : ℕ) → R j ≡ N → (lo ≤ suc j) × (suc j ≤ hi))
     → Local L U R N
-within {L} {U} {R} {N} lo hi run ins ups outs =
+one-run {L} {U} {R} {N} lo hi run ins ups outs =
     record { pair = λ {r} {s} a b. inl (λ y p q. run y (omega (arith, all a, all b)) (omega (arith, all a, all b))) }
   where
     all : {r : ℕ} → Row L U R N r → (lo ≤ r) × (r ≤ hi)

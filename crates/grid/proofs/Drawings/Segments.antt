@@ -1,5 +1,4 @@
--- Columns of five segments: the bottom net below row `low`, nothing to `start`, the middle net to `stop`, nothing to `high`, the top net above. The three
--- nets may coincide, and any may be 0. Where each net runs straight, is carried on or ends in one run, the column fits. Assumes nothing.
+-- Columns of five segments. Where each net runs straight, is carried on or ends in one run, the column fits. Assumes nothing.
 use Prim.Native.Nat.{ℕ, suc, _+_, _≤_, _<_, zero-le}
 use mathlib.Core.Path.{_≡_, refl, sym, _∙_}
 use mathlib.Core.Logic.{_⊎_, inl, inr, _≢_, ⊎-elim}
@@ -10,31 +9,15 @@ use native.Mathlib.Decide.{decLt, ℕ-discrete}
 use lib.Dec.{ltb}
 use lib.ListN.{length, getD, List·getD-eq-default}
 use Rattle.grid.specs.Channel.{pick}
+use Rattle.grid.specs.declared.Segments.{Segments}
+use Rattle.grid.specs.Segments.{segment}
 use Rattle.grid.proofs.Tests.{Below, below, above, belowBy, lt-ltb, le-ltb}
 use Rattle.grid.proofs.Drawings.Step.{Local, Leaves}
-use Rattle.grid.proofs.Drawings.Local.{leaves-on, carry, within}
+use Rattle.grid.proofs.Drawings.Local.{leaves-on, carry, one-run}
 use Rattle.grid.proofs.Drawings.Columns.{Column}
 pub use Rattle.grid.proofs.Drawings.Columns.{Source}
 
 -- THE SEGMENTS
-
-pub record Segments : Type 0 where
-  pub bottom : ℕ
-  pub low : ℕ
-  pub start : ℕ
-  pub middle : ℕ
-  pub stop : ℕ
-  pub high : ℕ
-  pub top : ℕ
-
--- the entry between the rows y and y + 1
-unfoldable pub segment : Segments → ℕ → ℕ
-segment s y =
-    pick (ltb y (s .low)) (s .bottom)
-    (pick (ltb y (s .start)) 0
-    (pick (ltb y (s .stop)) (s .middle)
-    (pick (ltb y (s .high)) 0
-    (s .top))))
 
 -- the segments follow one another in a column of t tracks
 pub record Ordered (t : ℕ) (s : Segments) : Type 0 where
@@ -67,7 +50,7 @@ pub record EachRun (t : ℕ) (s : Segments) (N : ℕ) (C : ℕ → ℕ → Type 
   pub onTop : s .top ≡ N → C (s .high) (suc t)
 
 -- and so of any
-pub of-run : {t : ℕ} {s : Segments} {N lo hi : ℕ} {C : ℕ → ℕ → Type 0} → EachRun t s N C → Run t s N lo hi → C lo hi
+of-run : {t : ℕ} {s : Segments} {N lo hi : ℕ} {C : ℕ → ℕ → Type 0} → EachRun t s N C → Run t s N lo hi → C lo hi
 of-run c (bottomRun e) = c .onBottom e
 of-run c (middleRun e) = c .onMiddle e
 of-run c (topRun e) = c .onTop e
@@ -95,7 +78,7 @@ segment-none {t} {s} o y p q (inl a) = rw (le-ltb y (s .low) p, lt-ltb y (s .sta
 segment-none {t} {s} o y p q (inr a) = rw (le-ltb y (s .low) p, le-ltb y (s .start) (omega arith), le-ltb y (s .stop) a, lt-ltb y (s .high) q)
 
 -- an entry that is N is in a run of N
-pub segment-in : (t : ℕ) (s : Segments) (N y : ℕ) → N ≢ 0 → y ≤ t → segment s y ≡ N → InRun t s N y
+segment-in : (t : ℕ) (s : Segments) (N y : ℕ) → N ≢ 0 → y ≤ t → segment s y ≡ N → InRun t s N y
 unfolding segment
 segment-in t s N y n h e =
     go (ltb y (s .low)) (belowBy y (s .low)) (ltb y (s .start)) (belowBy y (s .start))
@@ -165,14 +148,14 @@ module _ {t : ℕ} {s : Segments} {U : ℕ → ℕ} (o : Ordered t s) (u : Draws
   -- all of a net that ends lies in its run
   ended-local : {L R : ℕ → ℕ} {N lo hi : ℕ} → N ≢ 0 → Ended t s L R N lo hi → Local L U R N
   ended-local {L} {R} {N} {lo} {hi} n c =
-      within lo hi
+      one-run lo hi
       (λ y p q. let (a, b, run, l, h) = c .covers y p q in run-all run y l h)
       (c .ins)
       (λ y e. let (a, b, run, l, h) = in-run N y n e in omega (arith, of-run (c .runs) run (omega arith)))
       (c .outs)
 
   -- each of the three ways
-  pub fares-local : {L R : ℕ → ℕ} {N : ℕ} → N ≢ 0 → Fares t s L R N → Local L U R N
+  fares-local : {L R : ℕ → ℕ} {N : ℕ} → N ≢ 0 → Fares t s L R N → Local L U R N
   fares-local {L} {R} {N} n (straight none on) =
       carry (λ j e. leaves-on j (on j e)) (λ y e. let (lo, hi, run, a, b) = in-run N y n e in absurd (omega (arith, of-run none run)))
   fares-local n (carried c) = carried-local n c

@@ -42,7 +42,7 @@ climb-to v h N x r s p all =
     rw e at (climb v h N x r (s - r) (λ y a b. all y a (omega arith)))
 
 -- up or down
-pub joined-linked : {v h : ℕ → ℕ → ℕ} {N x r s : ℕ} → Joined (v x) N r s → Linked v h N x r x s
+joined-linked : {v h : ℕ → ℕ → ℕ} {N x r s : ℕ} → Joined (v x) N r s → Linked v h N x r x s
 joined-linked {v} {h} {N} {x} {r} {s} all = go (decLe r s)
   where
     go : Dec (r ≤ s) → Linked v h N x r x s

@@ -4,12 +4,13 @@ use mathlib.Core.Path.{_≡_, sym, ap, ap₂, _∙_}
 use mathlib.Core.Bool.{Bool, true, false, _||_}
 use lib.Dec.{eqb, ltb}
 use lib.ListN.{length}
+use Rattle.grid.specs.declared.Family.{Family}
 use Rattle.grid.specs.declared.RowCheck.the-variants.{Fit}
 use Rattle.grid.specs.Channel.{over, pins as pinsOf}
-use Rattle.grid.specs.Working.{Rows, some}
+use Rattle.grid.specs.Working.{Rows, someTo}
 use Rattle.grid.proofs.Tests.{or-false}
 use Rattle.grid.proofs.Tables.{table-length, table-some}
-use Rattle.grid.proofs.Answers.{refused-with, fit-by, case-4, case-5, case-6, case-7, case-0, pairs-by}
+use Rattle.grid.proofs.Answers.{refused-with, fit-by, case-4, case-5, case-6, case-7, case-0, family-by}
 use native.Mathlib.Omega.{arith}
 use borrow.Author.Needs.{needs}
 use Rattle.grid.proofs.checked.Statement.{statement}
@@ -24,11 +25,11 @@ rows c =
     record { same = c .before .before .before .before .before .if1 .left; short = omega (arith, c .before .before .before .if2 .left, c .before .before .before .before .limit .ensures); above = o .0; below = o .1 }
 
 -- whether a net has one pin, by the rows
-single : (c : tie.After-tests) → c .tests .result .single ≡ some (λ v. eqb (pinsOf (c .before .before .before .before .before .before .before .before .before .before .before .before .before .before .before .before .before .before .before .before .before .before .before .args .top .now) (c .before .before .before .before .before .before .before .before .before .before .before .before .before .before .before .before .before .before .before .before .before .before .before .args .bottom .now) v) 1) 256
+single : (c : tie.After-tests) → c .tests .result .single ≡ someTo (λ v. eqb (pinsOf (c .before .before .before .before .before .before .before .before .before .before .before .before .before .before .before .before .before .before .before .before .before .before .before .args .top .now) (c .before .before .before .before .before .before .before .before .before .before .before .before .before .before .before .before .before .before .before .before .before .before .before .args .bottom .now) v) 1) 256
 single c = c .tests .ensures .0 ∙ table-some (λ k. eqb k 1) (pinsOf (c .before .before .before .before .before .before .before .before .before .before .before .before .before .before .before .before .before .before .before .before .before .before .before .args .top .now) (c .before .before .before .before .before .before .before .before .before .before .before .before .before .before .before .before .before .before .before .before .before .before .before .args .bottom .now)) _ (c .before .before .before .before .before .before .before .before .fill .ensures .pinned)
 
 number : (c : tie.After-tests) (q : Bool) → c .tests .result .single ≡ q
-    → (some (λ v. eqb (pinsOf (c .before .before .before .before .before .before .before .before .before .before .before .before .before .before .before .before .before .before .before .before .before .before .before .args .top .now) (c .before .before .before .before .before .before .before .before .before .before .before .before .before .before .before .before .before .before .before .before .before .before .before .args .bottom .now) v) 1) 256 ≡ q)
+    → (someTo (λ v. eqb (pinsOf (c .before .before .before .before .before .before .before .before .before .before .before .before .before .before .before .before .before .before .before .before .before .before .before .args .top .now) (c .before .before .before .before .before .before .before .before .before .before .before .before .before .before .before .before .before .before .before .before .before .before .before .args .bottom .now) v) 1) 256 ≡ q)
 number c q e = sym (single c) ∙ e
 
 returns : tie.Need-returns
@@ -75,6 +76,9 @@ returns-4 c =
 largest-count-requires : tie.Need-largest-count-requires
 largest-count-requires c κs = (rows (c .before .before .before .before .before .before .before .before .before .before .before .before .before .before .before), c .before .before .before .before .before .before .before .before .before .before .before .fill .ensures .firsts, c .before .before .before .before .before .before .before .before .before .before .before .fill .ensures .lasts)
 
+family-of-requires : tie.Need-family-of-requires
+family-of-requires c κs = search needs
+
 same-length-4 : tie.Need-same-length-4
 same-length-4 c = search needs
 
@@ -90,9 +94,9 @@ returns-5 c =
     let bottom = c .before .before .before .before .before .before .before .before .before .before .before .before .before .before .before .before .before .before .before .before .before .before .before .before .before .before .before .before .args .bottom .now in
     let m = c .before .before .before .before .before .tests .ensures .1 ∙ table-some (ltb 2) (pinsOf top bottom) _ (c .before .before .before .before .before .before .before .before .before .before .before .before .before .fill .ensures .pinned) in
     let z = case-0 top bottom (c .before .before .before .before .before .before .before .before .before .before .before .before .before .before .before .before .before .before .before .before .before .before .before .before .before .before .before .before .args .most) (c .before .before .before .before .before .before .before .before .before .before .before .before .before .before .before .before .before .before .before .before .before .before .if1 .left) (omega (arith, c .before .before .before .before .before .before .before .before .before .before .before .before .before .before .before .before .before .before .before .before .if2 .left, c .before .before .before .before .before .before .before .before .before .before .before .before .before .before .before .before .before .before .before .before .before .limit .ensures)) (none-over (c .before .before .before .before .before .before .before .before .before .before .before .before .before .before .before .before .before)) (number (c .before .before .before .before .before) false (c .before .before .before .before .if4 .left)) in (
-      ap₂ (λ (d : ℕ) (p : Bool). Fit (record { columns = length top; density = d; pairs = p })) (c .before .largest-count .ensures) (pairs-by top bottom (c .before .before .before .before .before .tests .result .many) m) ∙ fit-by top bottom (c .before .before .before .before .before .before .before .before .before .before .before .before .before .before .before .before .before .before .before .before .before .before .before .before .before .before .before .before .args .most) z,
+      ap₂ (λ (d : ℕ) (f : Family). Fit (record { columns = length top; density = d; family = f })) (c .before .largest-count .ensures) (family-by top bottom (c .before .before .before .before .before .tests .result .three) m (c .family-of .result) (c .family-of .ensures)) ∙ fit-by top bottom (c .before .before .before .before .before .before .before .before .before .before .before .before .before .before .before .before .before .before .before .before .before .before .before .before .before .before .before .before .args .most) z,
       λ e. c .before .before .before .before .before .before .before .before .before .before .before .before .before .fill .ensures,
     )
 
 pub checked-spec : {M : Type 1} → statement M
-checked-spec = tie.close (tie.spec returns limit-requires returns-2 has-over-requires has-over-requires-2 returns-3 fill-requires tests-requires same-length same-length-2 same-length-3 returns-4 largest-count-requires same-length-4 same-length-5 same-length-6 returns-5)
+checked-spec = tie.close (tie.spec returns limit-requires returns-2 has-over-requires has-over-requires-2 returns-3 fill-requires tests-requires same-length same-length-2 same-length-3 returns-4 largest-count-requires family-of-requires same-length-4 same-length-5 same-length-6 returns-5)

@@ -2,7 +2,7 @@
 use mathlib.Core.Path.{sym, _∙_}
 use mathlib.Core.Logic.{_≢_}
 use Rattle.grid.specs.Answers.{numberOf}
-use Rattle.grid.proofs.Answers.{told, refused, check-promise, accepted-new, accepted-old}
+use Rattle.grid.proofs.Answers.{told, refused, rows-promise, accepted-new, accepted-old}
 use borrow.Author.Needs.{needs}
 use Rattle.grid.proofs.net_facts.Statement.{statement}
 use Rattle.grid.proofs.net_facts.Tie as tie
@@ -38,7 +38,7 @@ returns : tie.Need-returns
 returns c =
     let a = c .before .before .before .before .before .before .before .before .before .before .before .before .before .before .args in
     let r = c .before .before .before .before .before .checked in
-    let p = check-promise (a .top .now) (a .bottom .now) (a .most) _ (r .ensures .0) in
+    let p = rows-promise (a .top .now) (a .bottom .now) (a .most) _ (r .ensures .0) in
     let n : numberOf (r .result) ≢ 0 = λ z. refused (a .top .now) (a .bottom .now) (a .most) (r .result) _ (r .ensures .0) (c .enum-told2 .given .1) (sym (p .0) ∙ z) in
     (r .ensures .0, (sym (accepted-old _ _ _ n), (sym (accepted-old _ _ _ n), (sym (accepted-old _ _ _ n), p))))
 
@@ -46,7 +46,7 @@ returns-2 : tie.Need-returns-2
 returns-2 c =
     let a = c .before .before .before .before .before .before .before .before .before .before .before .before .before .before .args in
     let r = c .before .before .before .before .before .checked in
-    let p = check-promise (a .top .now) (a .bottom .now) (a .most) _ (r .ensures .0) in
+    let p = rows-promise (a .top .now) (a .bottom .now) (a .most) _ (r .ensures .0) in
     let e = told (a .top .now) (a .bottom .now) (a .most) (r .result) _ (r .ensures .0) (c .enum-told .given .1) .number in
     let f = r .ensures .1 e in
     let z = p .0 ∙ e in

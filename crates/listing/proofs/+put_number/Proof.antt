@@ -1,6 +1,6 @@
 use native.Mathlib.Omega.{arith}
 use mathlib.Core.Path.{_∙_}
-use Rattle.listing.proofs.Put.{first, next, room-one}
+use Rattle.listing.proofs.Put.{room-before, room-behind, room-one}
 use Rattle.listing.proofs.Lines.{number-small, number-large, small-room, large-room}
 use Prim.Native.Nat.{ℕ, _<_}
 use borrow.Fn.Kinds.{In}
@@ -71,7 +71,7 @@ put-number-put-number-requires : (t : ℕ) → put-number-lts.Need-put-number-re
 ) (put-number-at t) put-number.Post
 put-number-put-number-requires t c κs = (
   omega (arith, c .before .before .before .pre .0, c .before .if1 .left),
-  first _ (large-room (c .before .before .before .args .n)
+  room-before _ (large-room (c .before .before .before .args .n)
       (c .before .if1 .left) (c .before .before .before .pre .1)),
 )
 
@@ -98,7 +98,7 @@ put-number-put-byte-requires-2 : (t : ℕ) → put-number-lts.Need-put-byte-requ
   put-number.Post,
 ) (put-number-at t) put-number.Post
 put-number-put-byte-requires-2 t c κs =
-    room-one (next (c .before .before .before .put-number .ensures)
+    room-one (room-behind (c .before .before .before .put-number .ensures)
     (large-room (c .before .before .before .before .before .before .before .args .n) (c .before .before .before .before .before .if1 .left)
     (c .before .before .before .before .before .before .before .pre .1)))
 

@@ -1,14 +1,14 @@
 use native.Mathlib.Omega.{arith}
 use Prim.Native.Nat.{_≤_, _-_}
 use lib.ListN.{length, take}
-use Rattle.listing.specs.Working.{Put}
+use Rattle.listing.specs.Working.{PutOver}
 use Rattle.listing.proofs.Put.{put-none}
 use Rattle.listing.proofs.Lines.{bytes-more, bytes-room, bytes-all}
 use Rattle.listing.proofs.put_bytes.Statement.{statement}
 use Rattle.listing.proofs.put_bytes.Tie as tie
 
 abbrev Inv-loop : tie.InvT-loop
-Inv-loop text₀ at s end₀ i₀ text end i = (i ≤ length s) × Put text₀ at (take i s) end text
+Inv-loop text₀ at s end₀ i₀ text end i = (i ≤ length s) × PutOver text₀ at (take i s) end text
 
 abbrev μ-loop : tie.MeasureT-loop
 μ-loop text₀ at s end₀ i₀ text end i = length s - i

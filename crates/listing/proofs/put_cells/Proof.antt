@@ -1,14 +1,14 @@
 use native.Mathlib.Omega.{arith}
 use Prim.Native.Nat.{_+_, _≤_, _-_}
 use Rattle.listing.specs.Text.{cells}
-use Rattle.listing.specs.Working.{Put}
-use Rattle.listing.proofs.Put.{put-none, put-all, first, next, room-one}
+use Rattle.listing.specs.Working.{PutOver}
+use Rattle.listing.proofs.Put.{put-none, put-all, room-before, room-behind, room-one}
 use Rattle.listing.proofs.Lines.{cells-more, cell-room}
 use Rattle.listing.proofs.put_cells.Statement.{statement}
 use Rattle.listing.proofs.put_cells.Tie as tie
 
 abbrev Inv-loop : tie.InvT-loop
-Inv-loop text₀ at xs q k end₀ i₀ text end i = (i ≤ k) × Put text₀ at (cells xs q i) end text
+Inv-loop text₀ at xs q k end₀ i₀ text end i = (i ≤ k) × PutOver text₀ at (cells xs q i) end text
 
 abbrev μ-loop : tie.MeasureT-loop
 μ-loop text₀ at xs q k end₀ i₀ text end i = k - i
@@ -19,7 +19,7 @@ loop-holds c = (omega arith, put-none _ _ (omega arith))
 
 put-byte-requires : tie.Need-put-byte-requires Inv-loop μ-loop
 put-byte-requires c κs =
-    room-one (first _ (cell-room _ _ _ _ (c .before .loop-test .taken) (c .before .before .loop .inv .1) (c .before .before .before .before .before .pre .1)))
+    room-one (room-before _ (cell-room _ _ _ _ (c .before .loop-test .taken) (c .before .before .loop .inv .1) (c .before .before .before .before .before .pre .1)))
 
 add-put-number : tie.Need-add-put-number Inv-loop μ-loop
 add-put-number c = omega arith
@@ -42,7 +42,7 @@ cast-put-number c =
 
 put-number-requires : tie.Need-put-number-requires Inv-loop μ-loop
 put-number-requires c κs =
-    next (c .before .before .before .before .put-byte .ensures)
+    room-behind (c .before .before .before .before .put-byte .ensures)
     (cell-room _ _ _ _ (c .before .before .before .before .before .before .loop-test .taken)
     (c .before .before .before .before .before .before .before .loop .inv .1)
     (c .before .before .before .before .before .before .before .before .before .before .pre .1))

@@ -3,7 +3,7 @@ use native.Mathlib.Omega.{arith}
 use mathlib.Core.List.{[], _∷_}
 use Rattle.listing.specs.Text.{columnAt}
 use Rattle.listing.specs.Working.{Room}
-use Rattle.listing.proofs.Put.{put-then, first, next}
+use Rattle.listing.proofs.Put.{put-then, room-before, room-behind}
 use Rattle.listing.proofs.put_column.Statement.{statement}
 use Rattle.listing.proofs.put_column.Tie as tie
 
@@ -12,7 +12,7 @@ add-put-cells c = omega arith
 
 put-cells-requires : tie.Need-put-cells-requires
 unfolding columnAt
-put-cells-requires c κs = (omega arith, first _ (c .before .before .before .pre .1))
+put-cells-requires c κs = (omega arith, room-before _ (c .before .before .before .pre .1))
 
 slice-aggregate-put-bytes : tie.Need-slice-aggregate-put-bytes
 slice-aggregate-put-bytes c = omega arith
@@ -20,8 +20,8 @@ slice-aggregate-put-bytes c = omega arith
 put-bytes-requires : tie.Need-put-bytes-requires
 unfolding columnAt
 put-bytes-requires c κs =
-    let n = next (c .before .before .before .before .put-cells .ensures) (c .before .before .before .before .before .before .before .before .pre .1) in
-    let r : Room _ _ (32 ∷ 124 ∷ []) = first _ n in
+    let n = room-behind (c .before .before .before .before .put-cells .ensures) (c .before .before .before .before .before .before .before .before .pre .1) in
+    let r : Room _ _ (32 ∷ 124 ∷ []) = room-before _ n in
     r .room
 
 add-put-cells-2 : tie.Need-add-put-cells-2
@@ -34,7 +34,7 @@ put-cells-requires-2 : tie.Need-put-cells-requires-2
 unfolding columnAt
 put-cells-requires-2 c κs = (
   omega arith,
-  next (c .before .before .before .put-bytes .ensures) (next
+  room-behind (c .before .before .before .put-bytes .ensures) (room-behind
       (c .before .before .before .before .before .before .before .before .put-cells .ensures)
       (c .before .before .before .before .before .before .before .before .before .before .before .before .pre .1)),
 )

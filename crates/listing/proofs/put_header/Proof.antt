@@ -2,7 +2,7 @@ use borrow.Author.Needs.{needs}
 use native.Mathlib.Omega.{arith}
 use Rattle.listing.specs.Digits.{decimal}
 use Rattle.listing.specs.Text.{header, densityWord, tracksWord, widthWord}
-use Rattle.listing.proofs.Put.{put-then, first, next, room-one, room-two}
+use Rattle.listing.proofs.Put.{put-then, room-before, room-behind, room-one, room-two}
 use Rattle.listing.proofs.put_header.Statement.{statement}
 use Rattle.listing.proofs.put_header.Tie as tie
 
@@ -11,7 +11,7 @@ slice-aggregate-put-figure c = omega arith
 
 put-figure-requires : tie.Need-put-figure-requires
 unfolding header
-put-figure-requires c κs = room-two densityWord (decimal (c .before .before .before .args .d)) (first _ (c .before .before .before .pre))
+put-figure-requires c κs = room-two densityWord (decimal (c .before .before .before .args .d)) (room-before _ (c .before .before .before .pre))
 
 slice-aggregate-put-figure-2 : tie.Need-slice-aggregate-put-figure-2
 slice-aggregate-put-figure-2 c = omega arith
@@ -20,7 +20,7 @@ put-figure-requires-2 : tie.Need-put-figure-requires-2
 unfolding header
 put-figure-requires-2 c κs =
     room-two tracksWord (decimal (c .before .before .before .before .before .before .before .before .args .t))
-    (first _ (next (c .before .before .before .before .put-figure .ensures) (c .before .before .before .before .before .before .before .before .pre)))
+    (room-before _ (room-behind (c .before .before .before .before .put-figure .ensures) (c .before .before .before .before .before .before .before .before .pre)))
 
 slice-aggregate-put-figure-3 : tie.Need-slice-aggregate-put-figure-3
 slice-aggregate-put-figure-3 c = omega arith
@@ -29,15 +29,15 @@ put-figure-requires-3 : tie.Need-put-figure-requires-3
 unfolding header
 put-figure-requires-3 c κs =
     room-two widthWord (decimal (c .before .before .before .before .before .before .before .before .before .before .before .before .before .args .w))
-    (first _ (next (c .before .before .before .before .put-figure2 .ensures) (next
+    (room-before _ (room-behind (c .before .before .before .before .put-figure2 .ensures) (room-behind
     (c .before .before .before .before .before .before .before .before .before .put-figure .ensures)
     (c .before .before .before .before .before .before .before .before .before .before .before .before .before .pre))))
 
 put-byte-requires : tie.Need-put-byte-requires
 unfolding header
 put-byte-requires c κs =
-    room-one (next (c .before .before .before .put-figure3 .ensures) (next
-    (c .before .before .before .before .before .before .before .before .put-figure2 .ensures) (next
+    room-one (room-behind (c .before .before .before .put-figure3 .ensures) (room-behind
+    (c .before .before .before .before .before .before .before .before .put-figure2 .ensures) (room-behind
     (c .before .before .before .before .before .before .before .before .before .before .before .before .before .put-figure .ensures)
     (c .before .before .before .before .before .before .before .before .before .before .before .before .before .before .before .before .before .pre))))
 

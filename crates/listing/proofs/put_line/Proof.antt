@@ -1,24 +1,24 @@
 use borrow.Author.Needs.{needs}
 use native.Mathlib.Omega.{arith}
 use Rattle.listing.specs.Text.{lineAt}
-use Rattle.listing.proofs.Put.{put-then, first, next, room-one}
+use Rattle.listing.proofs.Put.{put-then, room-before, room-behind, room-one}
 use Rattle.listing.proofs.put_line.Statement.{statement}
 use Rattle.listing.proofs.put_line.Tie as tie
 
 put-number-requires : tie.Need-put-number-requires
 unfolding lineAt
-put-number-requires c κs = first _ (c .before .before .before .pre .1)
+put-number-requires c κs = room-before _ (c .before .before .before .pre .1)
 
 put-byte-requires : tie.Need-put-byte-requires
 unfolding lineAt
 put-byte-requires c κs =
-    room-one (first _ (next (c .before .before .before .put-number .ensures) (c .before .before .before .before .before .before .before .pre .1)))
+    room-one (room-before _ (room-behind (c .before .before .before .put-number .ensures) (c .before .before .before .before .before .before .before .pre .1)))
 
 put-column-requires : tie.Need-put-column-requires
 unfolding lineAt
 put-column-requires c κs = (
   omega arith,
-  first _ (next (c .before .before .before .put-byte .ensures) (next
+  room-before _ (room-behind (c .before .before .before .put-byte .ensures) (room-behind
       (c .before .before .before .before .before .before .before .put-number .ensures)
       (c .before .before .before .before .before .before .before .before .before .before .before .pre .1))),
 )
@@ -26,7 +26,7 @@ put-column-requires c κs = (
 put-byte-requires-2 : tie.Need-put-byte-requires-2
 unfolding lineAt
 put-byte-requires-2 c κs =
-    room-one (next (c .before .before .before .put-column .ensures) (next (c .before .before .before .before .before .before .before .put-byte .ensures) (next
+    room-one (room-behind (c .before .before .before .put-column .ensures) (room-behind (c .before .before .before .before .before .before .before .put-byte .ensures) (room-behind
     (c .before .before .before .before .before .before .before .before .before .before .before .put-number .ensures)
     (c .before .before .before .before .before .before .before .before .before .before .before .before .before .before .before .pre .1))))
 

@@ -3,14 +3,14 @@ use native.Mathlib.Omega.{arith}
 use Prim.Native.Nat.{_+_, _*_, _≤_, _-_, _<_}
 use mathlib.Core.Path.{_≡_}
 use Rattle.listing.specs.Text.{lines}
-use Rattle.listing.specs.Working.{Put}
+use Rattle.listing.specs.Working.{PutOver}
 use Rattle.listing.proofs.Put.{put-none, put-all}
-use Rattle.listing.proofs.Lines.{lines-more, line-room, next-place, column-inside}
+use Rattle.listing.proofs.Lines.{lines-more, line-room, next-place, column-fits}
 use Rattle.listing.proofs.put_lines.Statement.{statement}
 use Rattle.listing.proofs.put_lines.Tie as tie
 
 abbrev Inv-loop : tie.InvT-loop
-Inv-loop text₀ at xs t w each end₀ q₀ c₀ text end q c = (c ≤ w) × (q ≡ c * (2 * t + 1)) × Put text₀ at (lines xs t c) end text
+Inv-loop text₀ at xs t w each end₀ q₀ c₀ text end q c = (c ≤ w) × (q ≡ c * (2 * t + 1)) × PutOver text₀ at (lines xs t c) end text
 
 abbrev μ-loop : tie.MeasureT-loop
 μ-loop text₀ at xs t w each end₀ q₀ c₀ text end q c = w - c
@@ -33,7 +33,7 @@ put-line-requires c κs =
     let l = c .before .before .loop in
     let s = c .before .before .before .before .before in
     let h : l .c < s .args .w = omega (arith, c .before .loop-test .taken) in
-    let f = column-inside _ _ _ (2 * s .args .t + 1) (l .inv .1) h in
+    let f = column-fits _ _ _ (2 * s .args .t + 1) (l .inv .1) h in
     (omega (arith, f, s .pre .0), line-room _ _ _ _ _ (l .inv .1) h (l .inv .2) (s .pre .1 .1))
 
 add-q : tie.Need-add-q Inv-loop μ-loop
@@ -41,7 +41,7 @@ add-q c =
     let l = c .before .before .before .before .before .loop in
     let s = c .before .before .before .before .before .before .before .before in
     let h : l .c < s .args .w = omega (arith, c .before .before .before .before .loop-test .taken) in
-    let f = column-inside _ _ _ (2 * s .args .t + 1) (l .inv .1) h in
+    let f = column-fits _ _ _ (2 * s .args .t + 1) (l .inv .1) h in
     omega (arith, f, s .pre .0, s .good)
 
 add-c : tie.Need-add-c Inv-loop μ-loop

@@ -3,7 +3,7 @@ use borrow.Author.Needs.{needs}
 use native.Mathlib.Omega.{arith}
 use Prim.Native.Nat.{_/_, _%_, _^_}
 use lib.Count.{trailing-le}
-use Rattle.sets.proofs.Members.{after-none, after-some, lower}
+use Rattle.sets.proofs.Members.{above-none, above-some, lower}
 use Rattle.sets.proofs.above.Statement.{statement}
 use Rattle.sets.proofs.above.Tie as tie
 
@@ -33,7 +33,7 @@ returns c =
     let b = c .before in
     let x = b .before .word in
     let w = b .before .before .before in
-    after-some (w .before .args .s .now) (w .before .args .k % 512) (w .word-of .result) (b .bit-of .result) (x .result) (omega arith) (w .word-of .ensures) (b .bit-of .ensures) (x .ensures .0) (omega (arith, x .ok)) (omega arith)
+    above-some (w .before .args .s .now) (w .before .args .k % 512) (w .word-of .result) (b .bit-of .result) (x .result) (omega arith) (w .word-of .ensures) (b .bit-of .ensures) (x .ensures .0) (omega (arith, x .ok)) (omega arith)
 
 add-from-word : tie.Need-add-from-word
 add-from-word c = search needs
@@ -47,7 +47,7 @@ returns-2 c =
     let x = b .before .word in
     let w = b .before .before .before in
     lower (omega arith)
-    (after-none (w .before .args .s .now) (w .before .args .k % 512) (w .word-of .result) (b .bit-of .result) (x .result) (omega arith) (w .word-of .ensures) (b .bit-of .ensures) (x .ensures .0) (c .before .if1 .left))
+    (above-none (w .before .args .s .now) (w .before .args .k % 512) (w .word-of .result) (b .bit-of .result) (x .result) (omega arith) (w .word-of .ensures) (b .bit-of .ensures) (x .ensures .0) (c .before .if1 .left))
     (c .from-word .ensures)
 
 pub above-spec : {M : Type 1} → statement M

@@ -4,7 +4,7 @@ use native.Mathlib.Omega.{arith}
 use lib.ListN.{length}
 use borrow.Author.Needs.{needs}
 use Rattle.checker.specs.Check.{leavesLast}
-use Rattle.checker.proofs.Lowest.{NoneBelow, none-more, found-at, found-none}
+use Rattle.checker.proofs.Least.{NoneBelow, none-more, found-at, found-none}
 use Rattle.checker.proofs.entries.Last.{last-start, last-edge, last-none}
 use Rattle.checker.proofs.entries.find_last.Statement.{statement}
 use Rattle.checker.proofs.entries.find_last.Tie as tie

@@ -5,8 +5,9 @@ use native.Mathlib.Numerals.{add-one}
 use mathlib.Core.Path.{_≡_, sym, _∙_}
 use borrow.Author.Needs.{needs}
 use Rattle.checker.specs.Check.{mispinned}
-use Rattle.checker.proofs.Lowest.{NoneBelow, found-at, found-none}
-use Rattle.checker.proofs.entries.Pins.{pins-fine, pin-low, pin-high, pins-between, column-inside, columns-all}
+use Rattle.checker.proofs.Least.{NoneBelow, found-at, found-none}
+use Rattle.checker.proofs.Limits.{column-inside, columns-all}
+use Rattle.checker.proofs.entries.Pins.{pins-fine, pin-low, pin-high, pins-between}
 use Rattle.checker.proofs.entries.find_pin.Statement.{statement}
 use Rattle.checker.proofs.entries.find_pin.Tie as tie
 

@@ -4,8 +4,8 @@ use native.Mathlib.Omega.{arith}
 use mathlib.Core.Path.{sym, _∙_}
 use lib.ListN.{length, getD}
 use borrow.Author.Needs.{needs}
-use Rattle.checker.specs.Entries.{unknown}
-use Rattle.checker.proofs.Lowest.{NoneBelow, none-more, found-at, found-none}
+use Rattle.checker.specs.Working.{unknown}
+use Rattle.checker.proofs.Least.{NoneBelow, none-more, found-at, found-none}
 use Rattle.checker.proofs.entries.find_unknown.Statement.{statement}
 use Rattle.checker.proofs.entries.find_unknown.Tie as tie
 

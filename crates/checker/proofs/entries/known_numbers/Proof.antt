@@ -1,13 +1,13 @@
 -- `checker::entries::known_numbers` meets its contract: the marks below `v` are right.
 use Prim.Native.Nat.{_-_, _≤_}
 use native.Mathlib.Omega.{arith}
-use Rattle.checker.specs.Entries.{Marks}
+use Rattle.checker.specs.Working.{KnownMarks}
 use Rattle.checker.proofs.entries.Nets.{marks-start, marks-more, marks-all}
 use Rattle.checker.proofs.entries.known_numbers.Statement.{statement}
 use Rattle.checker.proofs.entries.known_numbers.Tie as tie
 
 abbrev Inv-loop : tie.InvT-loop
-Inv-loop pins known₀ v₀ known v = (1 ≤ v) × Marks pins known v
+Inv-loop pins known₀ v₀ known v = (1 ≤ v) × KnownMarks pins known v
 
 abbrev μ-loop : tie.MeasureT-loop
 μ-loop pins known₀ v₀ known v = 257 - v

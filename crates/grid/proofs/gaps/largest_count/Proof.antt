@@ -20,14 +20,14 @@ Inv-loop top bottom first last here₀ most₀ i₀ c₀ here most i c = (i ≤ 
 abbrev μ-loop : tie.MeasureT-loop
 μ-loop top bottom first last here₀ most₀ i₀ c₀ here most i c = length top - i
 
-turned : (c : tie.After-wide2 Inv-loop μ-loop)
-    → openAt (c .before .before .before .before .before .before .before .before .before .before .args .top .now) (c .before .before .before .before .before .before .before .before .before .before .args .bottom .now) (c .before .before .before .before .before .loop .i + 1) + netsOn (c .before .before .before .before .before .before .before .before .before .before .args .last .now) (c .before .before .before .before .before .loop .c) (c .before .before .wide .result) (c .wide2 .result)
-    ≡ c .before .before .before .before .before .loop .here + netsOn (c .before .before .before .before .before .before .before .before .before .before .args .first .now) (c .before .before .before .before .before .loop .c) (c .before .before .wide .result) (c .wide2 .result)
+turned : (c : tie.After-as-index2 Inv-loop μ-loop)
+    → openAt (c .before .before .before .before .before .before .before .before .before .before .args .top .now) (c .before .before .before .before .before .before .before .before .before .before .args .bottom .now) (c .before .before .before .before .before .loop .i + 1) + netsOn (c .before .before .before .before .before .before .before .before .before .before .args .last .now) (c .before .before .before .before .before .loop .c) (c .before .before .as-index .result) (c .as-index2 .result)
+    ≡ c .before .before .before .before .before .loop .here + netsOn (c .before .before .before .before .before .before .before .before .before .before .args .first .now) (c .before .before .before .before .before .loop .c) (c .before .before .as-index .result) (c .as-index2 .result)
 turned c =
     let a = c .before .before .before .before .before .before .before .before .before .before .args in
     let h = c .before .before .before .before .before .loop in
     open-turn (a .top .now) (a .bottom .now) (a .first .now) (a .last .now) (c .before .before .before .before .before .before .before .before .before .before .pre .0) (c .before .before .before .before .before .before .before .before .before .before .pre .1) (c .before .before .before .before .before .before .before .before .before .before .pre .2) (h .i)
-    (c .before .before .wide .result) (c .wide2 .result) (h .c) (h .here) (c .before .before .wide .ensures) (c .wide2 .ensures) (h .inv .1) (h .inv .2)
+    (c .before .before .as-index .result) (c .as-index2 .result) (h .c) (h .here) (c .before .before .as-index .ensures) (c .as-index2 .ensures) (h .inv .1) (h .inv .2)
 
 loop-holds : tie.Need-loop-holds Inv-loop μ-loop
 loop-holds c = (omega arith, refl, sym (none-open (c .before .before .before .before .args .top .now) (c .before .before .before .before .args .bottom .now)), sym (largest-none (c .before .before .before .before .args .top .now) (c .before .before .before .before .args .bottom .now)))
@@ -35,23 +35,23 @@ loop-holds c = (omega arith, refl, sym (none-open (c .before .before .before .be
 add-loop : tie.Need-add-loop Inv-loop μ-loop
 add-loop c = search needs
 
-mul-wide : tie.Need-mul-wide Inv-loop μ-loop
-mul-wide c = search needs
+mul-as-index : tie.Need-mul-as-index Inv-loop μ-loop
+mul-as-index c = search needs
 
-shared-slice-read-wide : tie.Need-shared-slice-read-wide Inv-loop μ-loop
-shared-slice-read-wide c = search needs
+shared-slice-read-as-index : tie.Need-shared-slice-read-as-index Inv-loop μ-loop
+shared-slice-read-as-index c = search needs
 
-wide-requires : tie.Need-wide-requires Inv-loop μ-loop
-wide-requires c κs = search needs
+as-index-requires : tie.Need-as-index-requires Inv-loop μ-loop
+as-index-requires c κs = search needs
 
-mul-wide-2 : tie.Need-mul-wide-2 Inv-loop μ-loop
-mul-wide-2 c = search needs
+mul-as-index-2 : tie.Need-mul-as-index-2 Inv-loop μ-loop
+mul-as-index-2 c = search needs
 
-shared-slice-read-wide-2 : tie.Need-shared-slice-read-wide-2 Inv-loop μ-loop
-shared-slice-read-wide-2 c = search needs
+shared-slice-read-as-index-2 : tie.Need-shared-slice-read-as-index-2 Inv-loop μ-loop
+shared-slice-read-as-index-2 c = search needs
 
-wide-requires-2 : tie.Need-wide-requires-2 Inv-loop μ-loop
-wide-requires-2 c κs = search needs
+as-index-requires-2 : tie.Need-as-index-requires-2 Inv-loop μ-loop
+as-index-requires-2 c κs = search needs
 
 after-requires : tie.Need-after-requires Inv-loop μ-loop
 after-requires c κs =
@@ -60,8 +60,8 @@ after-requires c κs =
     let f : length (a .last .now) ≡ 257 = ap length (c .before .before .before .before .before .before .before .before .before .before .pre .2) ∙ table-length (lastColumn (a .top .now) (a .bottom .now)) in
     let p = none-over (a .top .now) (c .before .before .before .before .before .loop .i) (c .before .before .before .before .before .before .before .before .before .before .pre .0 .above) in
     let q = none-over (a .bottom .now) (c .before .before .before .before .before .loop .i) (c .before .before .before .before .before .before .before .before .before .before .pre .0 .below) in
-    let x = c .before .before .wide .ensures in
-    let y = c .wide2 .ensures in (
+    let x = c .before .before .as-index .ensures in
+    let y = c .as-index2 .ensures in (
       (omega arith, omega arith, omega arith, omega arith),
       (omega (arith, c .before .before .before .before .before .loop .inv .2, open-le (a .top .now) (a .bottom .now) (c .before .before .before .before .before .loop .i)), omega (arith, turned c)),
     )
@@ -96,4 +96,4 @@ unfolding density
 returns c = c .before .loop .inv .3 ∙ ap (largest (c .before .before .before .before .before .before .args .top .now) (c .before .before .before .before .before .before .args .bottom .now)) (omega arith)
 
 pub largest-count-spec : {M : Type 1} → statement M
-largest-count-spec = tie.close (tie.spec Inv-loop μ-loop loop-holds add-loop mul-wide shared-slice-read-wide wide-requires mul-wide-2 shared-slice-read-wide-2 wide-requires-2 after-requires larger-requires add-i add-c loop-less loop-again returns)
+largest-count-spec = tie.close (tie.spec Inv-loop μ-loop loop-holds add-loop mul-as-index shared-slice-read-as-index as-index-requires mul-as-index-2 shared-slice-read-as-index-2 as-index-requires-2 after-requires larger-requires add-i add-c loop-less loop-again returns)

@@ -4,7 +4,7 @@ use mathlib.Core.Path.{_≡_, sym, ap, _∙_}
 use mathlib.Core.Bool.{Bool, _||_}
 use lib.ListN.{getD}
 use lib.Dec.{eqb, ltb}
-use Rattle.grid.specs.Working.{some}
+use Rattle.grid.specs.Working.{someTo}
 use Rattle.grid.proofs.Sums.{some-none, some-more}
 use native.Mathlib.Omega.{arith}
 use borrow.Author.Needs.{needs}
@@ -12,10 +12,10 @@ use Rattle.grid.proofs.scan.tests.Statement.{statement}
 use Rattle.grid.proofs.scan.tests.Tie as tie
 
 abbrev Inv-loop : tie.InvT-loop
-Inv-loop pins single₀ many₀ v₀ single many v = (v ≤ 256) × (single ≡ some (λ u. eqb (getD pins u 0) 1) v) × (many ≡ some (λ u. ltb 2 (getD pins u 0)) v)
+Inv-loop pins single₀ three₀ v₀ single three v = (v ≤ 256) × (single ≡ someTo (λ u. eqb (getD pins u 0) 1) v) × (three ≡ someTo (λ u. ltb 2 (getD pins u 0)) v)
 
 abbrev μ-loop : tie.MeasureT-loop
-μ-loop pins single₀ many₀ v₀ single many v = 256 - v
+μ-loop pins single₀ three₀ v₀ single three v = 256 - v
 
 loop-holds : tie.Need-loop-holds Inv-loop μ-loop
 loop-holds c =
@@ -49,7 +49,7 @@ returns c =
     let h = c .before in
     let l = h .before .args .pins .now in
     let e : h .loop .v ≡ 256 = omega arith in
-    (h .loop .inv .1 ∙ ap (some (λ u. eqb (getD l u 0) 1)) e, h .loop .inv .2 ∙ ap (some (λ u. ltb 2 (getD l u 0))) e)
+    (h .loop .inv .1 ∙ ap (someTo (λ u. eqb (getD l u 0) 1)) e, h .loop .inv .2 ∙ ap (someTo (λ u. ltb 2 (getD l u 0))) e)
 
 pub tests-spec : {M : Type 1} → statement M
 tests-spec = tie.close (tie.spec Inv-loop μ-loop loop-holds add-v mul-k shared-slice-read-k loop-less loop-again returns)

@@ -1,0 +1,93 @@
+-- `checker::counting::count_pieces` meets its contract: `x` columns are passed.
+use Prim.Native.Nat.{ℕ, _-_}
+use native.Mathlib.Omega.{arith}
+use lib.ListN.{length-replicate}
+use Rattle.checker.proofs.counting.Pass.{ColumnsPassed, pass-start, pass-column, pass-small, pass-next, pass-end}
+use Rattle.checker.proofs.counting.count_pieces.Statement.{statement}
+use Rattle.checker.proofs.counting.count_pieces.Tie as tie
+
+abbrev Inv-loop : tie.InvT-loop
+Inv-loop layout w t begun₀ joined₀ lab₀ b₀ q₀ x₀ begun joined lab b q x = ColumnsPassed layout w t x b q lab begun joined
+
+abbrev μ-loop : tie.MeasureT-loop
+μ-loop layout w t begun₀ joined₀ lab₀ b₀ q₀ x₀ begun joined lab b q x = w - x
+
+loop-holds : tie.Need-loop-holds Inv-loop μ-loop
+loop-holds c =
+    let s = c .before .pre in
+    pass-start _ _ _ _ _ _ (length-replicate {A = ℕ} 512 0) (s .1 .0) (s .1 .1)
+
+column-requires : tie.Need-column-requires Inv-loop μ-loop
+column-requires c κs =
+    let start = c .before .before .before .before .before .before in
+    let turn = c .before .before .before .before in
+    pass-column _ _ _ _ _ _ _ _ _ (start .pre .0) (turn .loop .inv) (c .before .before .before .loop-test .taken)
+
+add-q : tie.Need-add-q Inv-loop μ-loop
+add-q c =
+    let start = c .before .before .before .before .before .before .before in
+    let turn = c .before .before .before .before .before in
+    let test = c .before .before .before .before in
+    omega (arith, pass-small _ _ _ _ _ _ _ _ _ (start .pre .0) (turn .loop .inv) (test .loop-test .taken))
+
+add-q-2 : tie.Need-add-q-2 Inv-loop μ-loop
+add-q-2 c =
+    let start = c .before .before .before .before .before .before .before in
+    let turn = c .before .before .before .before .before in
+    let test = c .before .before .before .before in
+    omega (arith, pass-small _ _ _ _ _ _ _ _ _ (start .pre .0) (turn .loop .inv) (test .loop-test .taken))
+
+mul-b : tie.Need-mul-b Inv-loop μ-loop
+mul-b c =
+    let start = c .before .before .before .before .before .before .before in
+    let turn = c .before .before .before .before .before in
+    let test = c .before .before .before .before in
+    omega (arith, pass-small _ _ _ _ _ _ _ _ _ (start .pre .0) (turn .loop .inv) (test .loop-test .taken))
+
+add-b : tie.Need-add-b Inv-loop μ-loop
+add-b c =
+    let start = c .before .before .before .before .before .before .before in
+    let turn = c .before .before .before .before .before in
+    let test = c .before .before .before .before in
+    omega (arith, pass-small _ _ _ _ _ _ _ _ _ (start .pre .0) (turn .loop .inv) (test .loop-test .taken))
+
+add-b-2 : tie.Need-add-b-2 Inv-loop μ-loop
+add-b-2 c =
+    let start = c .before .before .before .before .before .before .before in
+    let turn = c .before .before .before .before .before in
+    let test = c .before .before .before .before in
+    omega (arith, pass-small _ _ _ _ _ _ _ _ _ (start .pre .0) (turn .loop .inv) (test .loop-test .taken))
+
+add-x : tie.Need-add-x Inv-loop μ-loop
+add-x c = omega arith
+
+loop-less : tie.Need-loop-less Inv-loop μ-loop
+loop-less c = omega arith
+
+loop-again : tie.Need-loop-again Inv-loop μ-loop
+loop-again c =
+    let start = c .before .before .before .before .before .before .before in
+    let turn = c .before .before .before .before .before in
+    let test = c .before .before .before .before in
+    pass-next _ _ _ _ _ _ _ _ _ (start .pre .0) (turn .loop .inv) _ _ _ (test .loop-test .taken) (c .column .ensures .0) (c .column .ensures .1)
+
+returns : tie.Need-returns Inv-loop μ-loop
+returns c = pass-end _ _ _ _ _ _ _ _ _ (c .before .before .before .pre .0) (c .before .loop .inv) (c .loop-test .left)
+
+pub count-pieces-spec : {M : Type 1} → statement M
+count-pieces-spec =
+    tie.close
+    (tie.spec
+    Inv-loop
+    μ-loop
+    loop-holds
+    column-requires
+    add-q
+    add-q-2
+    mul-b
+    add-b
+    add-b-2
+    add-x
+    loop-less
+    loop-again
+    returns)

@@ -1,0 +1,55 @@
+-- `report_cases::show_table` is safe and ends: net k + 1 is shown at place k. Assumes nothing.
+use Prim.Native.Nat.{_≤_, _+_, _-_}
+use mathlib.Core.Path.{_≡_}
+use borrow.Author.Needs.{needs}
+use Rattle.report_cases.proofs.show_table.Statement.{statement}
+use Rattle.report_cases.proofs.show_table.Tie as tie
+
+abbrev Inv-loop : tie.InvT-loop
+Inv-loop table k₀ net₀ k net = (k ≤ 256) × (net ≡ k + 1)
+
+abbrev μ-loop : tie.MeasureT-loop
+μ-loop table k₀ net₀ k net = 256 - k
+
+loop-holds : tie.Need-loop-holds Inv-loop μ-loop
+loop-holds c = search needs
+
+mul-show-net : tie.Need-mul-show-net Inv-loop μ-loop
+mul-show-net c = search needs
+
+array-copy-out-show-net : tie.Need-array-copy-out-show-net Inv-loop μ-loop
+array-copy-out-show-net c = search needs
+
+show-net-requires : tie.Need-show-net-requires Inv-loop μ-loop
+show-net-requires c κs = search needs
+
+add-k : tie.Need-add-k Inv-loop μ-loop
+add-k c = search needs
+
+add-net : tie.Need-add-net Inv-loop μ-loop
+add-net c = search needs
+
+loop-less : tie.Need-loop-less Inv-loop μ-loop
+loop-less c = search needs
+
+loop-again : tie.Need-loop-again Inv-loop μ-loop
+loop-again c = search needs
+
+returns : tie.Need-returns Inv-loop μ-loop
+returns c = search needs
+
+pub show-table-spec : {M : Type 1} → statement M
+show-table-spec =
+    tie.close
+    (tie.spec
+    Inv-loop
+    μ-loop
+    loop-holds
+    mul-show-net
+    array-copy-out-show-net
+    show-net-requires
+    add-k
+    add-net
+    loop-less
+    loop-again
+    returns)

@@ -1,0 +1,95 @@
+-- What the sweep's code goes by: every column's action applies, the gaps are lists of t nets up to 256, and the layout fits the slice.
+use Prim.Native.Nat.{ℕ, _+_, _*_, _-_, _/_, _≤_, _<_}
+use mathlib.Core.Path.{_≡_, refl}
+use mathlib.Core.Logic.{_⊎_, inl, inr}
+use mathlib.Core.List.{List}
+use Rattle.grid.specs.Grid.{Solution}
+use native.Mathlib.Omega.{arith}
+use native.Mathlib.Nat.{mul-le-mul-right}
+use native.Mathlib.Decide.{decLt, ℕ-discrete}
+use lib.ListN.{length, getD}
+use Rattle.grid.specs.Channel.{tracks, rowsRefused}
+use Rattle.grid.proofs.Counting.{holds-times, at-below}
+use Rattle.grid.proofs.Rows.{RowsFit, rows-fit, rows-short, pin-small}
+use Rattle.grid.proofs.OpenNets.{tracks-small}
+use Rattle.sweep.specs.Drawing.{action, gap}
+use Rattle.sweep.specs.Drawing as Drawing
+use Rattle.sweep.specs.Working.{nobody, topNet, bottomNet, endedNet}
+use Rattle.router.specs.Answers.{width, layout, sliceLength}
+use Rattle.router.specs.Working.{EachFits}
+use Rattle.sweep.proofs.Solved.{Enough, tracks-enough, gaps, width-most}
+use Rattle.sweep.proofs.Solved as Solved
+use Rattle.sweep.proofs.Columns.Sound.{Known, pinNet, strandNet, applies, plain}
+use Rattle.sweep.proofs.Gaps.Held.{no-more}
+use Rattle.sweep.proofs.Drawing.Sweep.{sound}
+
+-- ENOUGH TRACKS for an accepted channel
+module _ (t : ℕ) (top bottom : List ℕ) (fit : RowsFit top bottom) (enough : Enough t top bottom) where
+  -- a strand's net is one of 1 to 256
+  gap-nets : (c : ℕ) → c ≤ length top → (j : ℕ) → getD (gap t top bottom c) j 0 ≤ 256
+  gap-nets c p j = go (decLt 256 (getD (gap t top bottom c) j 0))
+    where
+      go : Dec (256 < getD (gap t top bottom c) j 0) → getD (gap t top bottom c) j 0 ≤ 256
+      go (no q) = omega arith
+      go (yes q) =
+          absurd (omega (
+            arith,
+            no-more top bottom fit c (gap t top bottom c) (gaps t top bottom fit enough c p) (getD (gap t top bottom c) j 0) q,
+            holds-times (gap t top bottom c) j (getD (gap t top bottom c) j 0)
+                (at-below (gap t top bottom c) j (getD (gap t top bottom c) j 0) (omega arith) refl) refl,
+          ))
+
+  -- THE TRACKS THAT A COLUMN GIVES ARE FREE BY THEN, and its nets are the column's, numbered up to 256
+  pub column-fits : EachFits t top bottom
+  column-fits c p =
+      let s = sound t top bottom fit enough c p in
+      record {
+        applies = applies t (getD top c 0) (getD bottom c 0) (gap t top bottom c) (action t top bottom c (gap t top bottom c)) s small;
+        plain = plain t (getD top c 0) (getD bottom c 0) (gap t top bottom c) (action t top bottom c (gap t top bottom c)) s;
+      }
+    where
+      pin : (v : ℕ) → (getD top c 0 ≡ v) ⊎ (getD bottom c 0 ≡ v) → v ≤ 256
+      pin v here = go (ℕ-discrete v 0)
+        where
+          go : Dec (v ≡ 0) → v ≤ 256
+          go (yes e) = omega arith
+          go (no n) = pin-small top bottom fit v c n here
+
+      small : (v : ℕ) → Known (getD top c 0) (getD bottom c 0) (gap t top bottom c) v → v ≤ 256
+      small v (pinNet (nobody e)) = omega arith
+      small v (pinNet (topNet e)) = pin v (inl e)
+      small v (pinNet (bottomNet e)) = pin v (inr e)
+      small v (pinNet (endedNet e)) = omega arith
+      small v (strandNet s) = omega (arith, gap-nets c (omega arith) (s .index), s .holds)
+
+-- AN ACCEPTED CHANNEL on its own tracks
+module _ (top bottom : List ℕ) (ok : rowsRefused top bottom 256 ≡ 0) where
+  -- what the rows are then
+  fit : RowsFit top bottom
+  fit = rows-fit top bottom ok
+
+  -- THE LAYOUT IS A SOLUTION
+  pub solved : Solution top bottom (width top bottom) (tracks top bottom) (layout top bottom)
+  solved = Solved.solved (tracks top bottom) top bottom fit (tracks-enough top bottom)
+
+  -- its length is "w × (2t + 1) entries"
+  pub layout-length : length (layout top bottom) ≡ width top bottom * (2 * tracks top bottom + 1)
+  layout-length = solved .size
+
+  -- the width is n at least
+  pub width-least : length top ≤ width top bottom
+  unfolding Drawing.width
+  width-least = omega arith
+
+  -- n and half the tracks at most
+  pub width-half : width top bottom ≤ length top + tracks top bottom / 2
+  width-half = width-most (tracks top bottom) top bottom fit (tracks-enough top bottom)
+
+  -- and 511 at most
+  pub width-small : width top bottom ≤ 511
+  width-small = omega (arith, width-half, rows-short top bottom 256 ok, tracks-small top bottom)
+
+  -- A SLICE OF THE LENGTH ASKED FOR HOLDS THE LAYOUT
+  pub layout-fits : (lent : ℕ) → sliceLength top bottom ≤ lent → width top bottom * (2 * tracks top bottom + 1) ≤ lent
+  unfolding sliceLength
+  layout-fits lent p = omega (arith, mul-le-mul-right (2 * tracks top bottom + 1) width-half)

@@ -1,0 +1,21 @@
+-- The laws that the functions' proofs go by, in the order of the argument.
+-- Arrays   the tracks, the set of the free ones and the index of the nets' strands, as an action changes them
+-- Lowest   the lowest net of a set, and the lowest net on the tracks
+-- Sets     the free tracks, the extended and the wide nets as sets
+-- Scans    the second lowest strand of a net
+-- Columns  the entries of a column
+-- Sweeps   what the arrays and sets say of a column, and the columns drawn so far
+-- Marking  the sets from one gap to the next
+-- Begin    the arrays and sets as the sweep begins, and as it ends
+-- Added    the columns added after column n
+-- Calls    from the row check's answer to the calls' promises
+pub mod Arrays
+pub mod Lowest
+pub mod Sets
+pub mod Scans
+pub mod Columns
+pub mod Sweeps
+pub mod Marking
+pub mod Begin
+pub mod Added
+pub mod Calls

@@ -1,0 +1,96 @@
+-- The lowest net of a set is the lowest net on the tracks that passes the set's test.
+use Prim.Native.Nat.{ℕ, zero, suc, _%_, _≤_, _<_}
+use mathlib.Core.Path.{_≡_, refl, sym, ap, subst, _∙_}
+use mathlib.Core.Bool.{Bool, true, false}
+use mathlib.Core.List.{List, [], _∷_}
+use mathlib.Core.Logic.{⊎-elim}
+use native.Mathlib.Omega.{arith}
+use lib.Dec.{T}
+use lib.ListN.{length, getD}
+use Rattle.grid.specs.Channel.{pick}
+use Rattle.sets.specs.Member.{member, Lowest}
+use Rattle.sweep.specs.Tracks.{lesser, lowestNet, many}
+use Rattle.router.specs.Working.{Next}
+use Rattle.grid.proofs.Counting.{holds-times}
+use Rattle.sweep.proofs.Tracks.Changed.{below-or}
+use Rattle.sweep.proofs.Tracks.Strands.{lowest-is, many-times, a-net}
+
+-- a test does not hold and fail
+pub not-both : {b : Bool} → b ≡ true → b ≡ false → ⊥
+not-both p q = subst T (sym p ∙ q) tt
+
+-- the lesser of two is at most each that is a net
+lesser-left : (x y : ℕ) → 0 < x → (0 < lesser x y) × (lesser x y ≤ x)
+unfolding lesser
+lesser-left zero y h = absurd (omega arith)
+lesser-left (suc x) zero h = omega arith
+lesser-left (suc x) (suc y) h = omega arith
+
+lesser-right : (x y : ℕ) → 0 < y → (0 < lesser x y) × (lesser x y ≤ y)
+unfolding lesser
+lesser-right zero y h = omega arith
+lesser-right (suc x) zero h = absurd (omega arith)
+lesser-right (suc x) (suc y) h = omega arith
+
+-- v stands on a track
+abbrev pub OnTrack : ℕ → List ℕ → Type 0
+OnTrack v l = (j : ℕ) × (j < length l) × (getD l j 0 ≡ v)
+
+-- a net with strands stands on a track
+pub many-on : (v : ℕ) (tr : List ℕ) → 0 < many v tr → OnTrack v tr
+many-on v tr h = let s = lowest-is v tr (omega (arith, many-times v tr)) in (s .index, s .inside, s .holds)
+
+-- and the other way round
+pub on-many : (v : ℕ) (tr : List ℕ) → OnTrack v tr → 0 < many v tr
+on-many v tr w = omega (arith, many-times v tr, holds-times tr (w .0) v (w .1) (w .2))
+
+-- the lowest net that passes a test passes it, and stands on a track
+net-found : (p : ℕ → Bool) (l : List ℕ) → 0 < lowestNet p l → (p (lowestNet p l) ≡ true) × OnTrack (lowestNet p l) l
+net-found p l n =
+    let v : ℕ = lowestNet p l in
+    let w = a-net p l v (λ e. omega arith) refl in
+    (w .0, many-on v l (omega (arith, w .1, many-times v l)))
+
+-- and is at most each net on a track that passes it
+net-least : (p : ℕ → Bool) (l : List ℕ) (j : ℕ) → j < length l → p (getD l j 0) ≡ true → 0 < getD l j 0 → (0 < lowestNet p l) × (lowestNet p l ≤ getD l j 0)
+unfolding lowestNet
+net-least p [] j h e n = absurd (omega arith)
+net-least p (x ∷ xs) zero h e n = rw e (lesser-left x (lowestNet p xs) n)
+net-least p (x ∷ xs) (suc j) h e n =
+    let ih = net-least p xs j (omega arith) e n in
+    let w = lesser-right (pick (p x) x 0) (lowestNet p xs) (ih .0) in
+    (w .0, omega arith)
+
+-- a set of nets on the tracks by a test: each member passes it, and each net on a track that passes it is a member
+pub record Gathers (p : ℕ → Bool) (tr s : List ℕ) : Type 0 where
+  pub only : (v : ℕ) → member s v ≡ true → (0 < v) × (p v ≡ true) × OnTrack v tr
+  pub all : (v : ℕ) → OnTrack v tr → 0 < v → p v ≡ true → (v < 512) × (member s v ≡ true)
+
+-- the lowest member of such a set is the lowest net that passes the test
+pub lowest-net : (p : ℕ → Bool) (tr s : List ℕ) (r : ℕ) → Gathers p tr s → Next s 0 r → r ≡ lowestNet p tr
+lowest-net p tr s r m n = n .is ∙ ⊎-elim some none (below-or (n .place) 512)
+  where
+    k : ℕ
+    k = n .place
+
+    o : Lowest s 0 k
+    o = n .least
+
+    some : k < 512 → k % 512 ≡ lowestNet p tr
+    some h =
+        let f = m .only k (o .found h) in
+        let l = net-least p tr (f .2 .0) (f .2 .1) (ap p (f .2 .2) ∙ f .1) (subst (λ (z : ℕ). 0 < z) (sym (f .2 .2)) (f .0)) in
+        let g = net-found p tr (l .0) in
+        let b = m .all (lowestNet p tr) (g .1) (l .0) (g .0) in
+        ⊎-elim (λ (q : lowestNet p tr < k). absurd (not-both (b .1) (o .below (lowestNet p tr) (omega arith) q)))
+        (λ (q : k ≤ lowestNet p tr). omega (arith, f .2 .2, l .1)) (below-or (lowestNet p tr) k)
+
+    none : 512 ≤ k → k % 512 ≡ lowestNet p tr
+    none h =
+        let e : k ≡ 512 = omega (arith, o .high) in
+        ⊎-elim
+        (λ (q : 0 < lowestNet p tr).
+        let g = net-found p tr q in
+        let b = m .all (lowestNet p tr) (g .1) q (g .0) in
+        absurd (not-both (b .1) (o .below (lowestNet p tr) (omega arith) (omega (arith, b .0)))))
+        (λ (q : lowestNet p tr ≤ 0). omega arith) (below-or 0 (lowestNet p tr))

@@ -1,0 +1,304 @@
+-- What the arrays and sets say of a column, and the columns drawn so far.
+use Prim.Native.Nat.{ℕ, zero, suc, _+_, _-_, _*_, _≤_, _<_}
+use mathlib.Core.Path.{_≡_, refl, sym, ap, subst, _∙_}
+use mathlib.Core.Bool.{Bool, true, false, not, _&&_}
+use mathlib.Core.List.{List, _++_, append-assoc}
+use mathlib.Core.Logic.{inl, inr, ⊎-elim}
+use native.Mathlib.Nat.{zero-mul, suc-mul, mul-le-mul-right, add-sub-cancel-left}
+use native.Mathlib.Numerals.{add-one}
+use native.Mathlib.Omega.{arith}
+use lib.Dec.{eqb, ltb, leb}
+use borrow.Author.Tests.{eq-eqb, ne-eqb, lt-ltb, ltb-true}
+use lib.ListN.{length, take, drop, getD, length-append, length-take, length-drop, List·getD-eq-default}
+use lib.Seq.{take-at, drop-at, drop-drop}
+use Rattle.grid.specs.declared.Family.{Family}
+use Rattle.grid.specs.declared.Family.the-variants.{TwoPin, ManyPin}
+use Rattle.grid.specs.Channel.{pick}
+use Rattle.grid.proofs.Tests.{and-true}
+use Rattle.sets.specs.Member.{member}
+use Rattle.sweep.specs.declared.Action.{Action}
+use Rattle.sweep.specs.declared.Pin.{Pin}
+use Rattle.sweep.specs.declared.Free.{Free}
+use Rattle.sweep.specs.declared.Joint.{Joint}
+use Rattle.sweep.specs.Tracks.{second, many, after, verticals}
+use Rattle.sweep.specs.TwoPin.{chooseTwo}
+use Rattle.sweep.specs.ManyPin.{chooseMany}
+use Rattle.sweep.specs.Drawing
+use Rattle.sweep.specs.Drawing.{actionOf, kindBy, freeOf, pinAt, extendedAt, wideAt, extendedNet, netToJoin, jointOf, action, gap, drawn}
+use Rattle.sweep.specs.Working.{Flat}
+use Rattle.router.specs.Working.{tracksOf, Holds, Spans, RowsAndLasts, Ready, Fitting, FitsAt, Marked, Keeps, narrow, AtGap, DrawnTo, Next, ToJoin, LowestJoint, pinBy, extendedBy, wideBy, jointBy}
+use Rattle.sweep.proofs.Tracks.Changed.{below-or}
+use Rattle.router.proofs.Laws.Arrays.{length-tracks, tracks-at, own}
+use Rattle.sweep.proofs.Rules.Seconds.{leaving, two-same, many-same}
+use Rattle.router.proofs.Laws.Lowest.{OnTrack, Gathers, lowest-net, many-on, on-many}
+
+-- a kind is a number up to 3
+kind-bound : (p q : Bool) → kindBy p q ≤ 3
+kind-bound false q = omega arith
+kind-bound true true = omega arith
+kind-bound true false = omega arith
+
+-- a pin's kind is a number up to 3
+pub pin-kind : (f l a b m c v : ℕ) (A : Pin) → A ≡ pinBy f l a b m c v → A .kind ≤ 3
+unfolding pinBy
+pin-kind f l a b m c v A e = subst (λ (x : Pin). x .kind ≤ 3) (sym e) (go (eqb v 0))
+  where
+    none : 0 ≤ 3
+    none = omega arith
+
+    go : (p : Bool) → pick {A = Pin} p (record { net = 0; kind = 0; low = 0; high = 0; many = 0 })
+        (record { net = v; kind = kindBy (not (eqb f 0) && leb f c) (ltb (c + 1) l); low = a; high = b; many = m }) .kind ≤ 3
+    go true = none
+    go false = kind-bound (not (eqb f 0) && leb f c) (ltb (c + 1) l)
+
+-- a net on the tracks is numbered up to 256
+pub on-small : {t : ℕ} {tr d f l h n : List ℕ} → Holds t tr d f l h n → (v : ℕ) → OnTrack v (tracksOf t d) → v ≤ 256
+on-small {t} {tr} {d} w v o =
+    subst (λ (k : ℕ). k ≤ 256) (sym (tracks-at t d (o .0) (omega (arith, o .1, length-tracks t d (w .fits) (w .sized)))) ∙ o .2) (w .nets (suc (o .0)))
+
+-- ---- a column
+
+-- a number that is not 0
+pub nonzero : (v : ℕ) → not (eqb v 0) ≡ true → 0 < v
+nonzero zero e = let z : _≡_ {A = ℕ} 0 1 = cc in absurd (omega arith)
+nonzero (suc v) e = omega arith
+
+module _ (top bottom first last : List ℕ) (sp : Spans top bottom first last) {t : ℕ} {d f low high number : List ℕ} (h : Holds t (tracksOf t d) d f low high number) (c : ℕ) where
+  -- the tracks
+  abbrev tr : List ℕ
+  tr = tracksOf t d
+
+  -- the pin by the arrays is the pin
+  pin-is : (v : ℕ) → v ≤ 256 → pinBy (getD first v 0) (getD last v 0) (getD low v 0) (getD high v 0) (getD number v 0) c v ≡ pinAt top bottom c tr v
+  unfolding pinBy pinAt
+  pin-is zero b = refl
+  pin-is (suc v) b =
+      let p : 0 < suc v = omega arith in
+      rw (sp .before c (suc v) p b, sp .after (suc c) (suc v) b, h .lows .at (suc v) p b, h .highs .at (suc v) p b, h .numbers .at (suc v) p b, add-one c)
+
+  -- so is the net of rule 2, but for the second lowest strand where it does not leave on that one
+  joint-is : (v : ℕ) → v ≤ 256 → jointBy (getD last v 0) (getD low v 0) (second v tr) (getD high v 0) c v ≡ leaving (jointOf top bottom c tr v)
+  unfolding jointBy jointOf
+  joint-is zero b = refl
+  joint-is (suc v) b =
+      let p : 0 < suc v = omega arith in
+      rw (ne-eqb (suc v) 0 (λ e. omega arith), sp .after (suc c) (suc v) b, h .lows .at (suc v) p b, h .highs .at (suc v) p b, add-one c)
+
+  module _ {s w : List ℕ} {fam : Family} (so : Marked last number c s w fam) where
+    -- a member is a net with strands
+    counted : (v : ℕ) → 0 < v → 0 < getD number v 0 → (v ≤ 256) × (0 < many v tr)
+    counted v p q =
+        ⊎-elim (λ (l : v < 257). (omega arith, subst (λ (k : ℕ). 0 < k) (h .numbers .at v p (omega arith)) q))
+        (λ (l : 257 ≤ v). let z : getD number v 0 ≡ 0 = List·getD-eq-default number 0 (omega (arith, h .numbers .sized)) in absurd (omega arith)) (below-or v 257)
+
+    -- the set of extended nets by its test
+    extended-gathers : Gathers (extendedAt top bottom c) tr s
+    unfolding extendedBy extendedAt
+    extended-gathers = record { only = λ v e. back v (sym (so v .extended) ∙ e); all = there }
+      where
+        back : (v : ℕ) → (not (eqb v 0) && (not (ltb c (getD last v 0)) && ltb 0 (getD number v 0))) ≡ true → (0 < v) × (extendedAt top bottom c v ≡ true) × OnTrack v tr
+        back v e =
+            let a = and-true (not (eqb v 0)) _ e in
+            let b = and-true (not (ltb c (getD last v 0))) _ (a .1) in
+            let p : 0 < v = nonzero v (a .0) in
+            let k = counted v p (ltb-true 0 (getD number v 0) (b .1)) in
+            (p, rw (sp .after c v (k .0), b .0, a .0) refl, many-on v tr (k .1))
+
+        there : (v : ℕ) → OnTrack v tr → 0 < v → extendedAt top bottom c v ≡ true → (v < 512) × (member s v ≡ true)
+        there v o p e =
+            let b : v ≤ 256 = on-small h v o in
+            let a = and-true (not (eqb v 0)) _ e in
+            let m : 0 < getD number v 0 = subst (λ (k : ℕ). 0 < k) (sym (h .numbers .at v p b)) (on-many v tr o) in
+            (omega arith, so v .extended ∙ rw (a .0, sym (sp .after c v b), a .1, lt-ltb 0 (getD number v 0) m) refl)
+
+    -- the set of wide nets by its test
+    wide-gathers : narrow fam ≡ false → Gathers (wideAt top bottom c tr) tr w
+    unfolding wideBy wideAt
+    wide-gathers m = record { only = λ v e. back v (sym (so v .wide m) ∙ e); all = there }
+      where
+        back : (v : ℕ) → (not (eqb v 0) && (ltb c (getD last v 0) && ltb 2 (getD number v 0))) ≡ true → (0 < v) × (wideAt top bottom c tr v ≡ true) × OnTrack v tr
+        back v e =
+            let a = and-true (not (eqb v 0)) _ e in
+            let b = and-true (ltb c (getD last v 0)) _ (a .1) in
+            let p : 0 < v = nonzero v (a .0) in
+            let n : 2 < getD number v 0 = ltb-true 2 (getD number v 0) (b .1) in
+            let k = counted v p (omega arith) in
+            (p, rw (sp .after c v (k .0), b .0, sym (h .numbers .at v p (k .0)), b .1) refl, many-on v tr (k .1))
+
+        there : (v : ℕ) → OnTrack v tr → 0 < v → wideAt top bottom c tr v ≡ true → (v < 512) × (member w v ≡ true)
+        there v o p e =
+            let b : v ≤ 256 = on-small h v o in
+            let a = and-true (Drawing.later top bottom c v) _ e in
+            (omega arith, so v .wide m ∙ rw (ne-eqb v 0 (λ q. omega arith), sym (sp .after c v b), a .0, h .numbers .at v p b, a .1) refl)
+
+    -- its lowest is the extended net
+    extended-is : (v : ℕ) → Next s 0 v → v ≡ extendedNet top bottom c tr
+    unfolding extendedNet
+    extended-is v n = lowest-net (extendedAt top bottom c) tr s v extended-gathers n
+
+    -- the net of rule 2 of a many-pin channel
+    to-join-is : narrow fam ≡ false → (v : ℕ) → ToJoin s w v → v ≡ netToJoin top bottom c tr
+    unfolding netToJoin
+    to-join-is m v (inl n) =
+        let e : v ≡ extendedNet top bottom c tr = extended-is v (n .0) in
+        e ∙ sym (rw (ne-eqb (extendedNet top bottom c tr) 0 (λ q. n .1 (e ∙ q))) refl)
+    to-join-is m v (inr n) =
+        let e : extendedNet top bottom c tr ≡ 0 = sym (extended-is 0 (n .0)) in
+        lowest-net (wideAt top bottom c tr) tr w v (wide-gathers m) (n .1) ∙ sym (rw (eq-eqb (extendedNet top bottom c tr) 0 e) refl)
+
+    -- the net of rule 2 is numbered up to 256
+    next-small : (u : List ℕ) (p : ℕ → Bool) (v : ℕ) → Gathers p tr u → Next u 0 v → v ≤ 256
+    next-small u p zero m n = omega arith
+    next-small u p (suc v) m n =
+        let e : suc v ≡ n .place = omega (arith, n .is, n .least .high) in
+        on-small h (suc v) (m .only (suc v) (ap (member u) e ∙ n .least .found (omega arith)) .2)
+
+    -- an extended net is numbered up to 256
+    pub extended-small : (v : ℕ) → Next s 0 v → v ≤ 256
+    extended-small v n = next-small s (extendedAt top bottom c) v extended-gathers n
+
+    -- so is the net of rule 2 of a many-pin channel
+    pub to-join-small : narrow fam ≡ false → (v : ℕ) → ToJoin s w v → v ≤ 256
+    to-join-small m v (inl n) = extended-small v (n .0)
+    to-join-small m v (inr n) = next-small w (wideAt top bottom c tr) v (wide-gathers m) (n .1)
+
+-- a column, from what its functions found
+module _ (top bottom first last : List ℕ) {t : ℕ} {d f low high number s w : List ℕ} {fam : Family} (c : ℕ) (A B : Pin) (x : Action)
+    (h : Holds t (tracksOf t d) d f low high number) (so : Marked last number c s w fam)
+    (ea : A ≡ pinBy (getD first (getD top c 0) 0) (getD last (getD top c 0) 0) (getD low (getD top c 0) 0) (getD high (getD top c 0) 0) (getD number (getD top c 0) 0) c (getD top c 0))
+    (eb : B ≡ pinBy (getD first (getD bottom c 0) 0) (getD last (getD bottom c 0) 0) (getD low (getD bottom c 0) 0) (getD high (getD bottom c 0) 0) (getD number (getD bottom c 0) 0) c (getD bottom c 0)) where
+  -- its top pin
+  top-is : {p : Family} → Ready top bottom first last t p → A ≡ pinAt top bottom c (tracksOf t d) (getD top c 0)
+  top-is r = ea ∙ pin-is top bottom first last (r .spans) h c (getD top c 0) (r .tops c)
+
+  -- its bottom pin
+  bottom-is : {p : Family} → Ready top bottom first last t p → B ≡ pinAt top bottom c (tracksOf t d) (getD bottom c 0)
+  bottom-is r = eb ∙ pin-is top bottom first last (r .spans) h c (getD bottom c 0) (r .bottoms c)
+
+  -- of a two-pin channel
+  pub column-is : fam ≡ TwoPin → Ready top bottom first last t fam
+      → ((N : Joint) → LowestJoint last low high s (tracksOf t d) c N → x ≡ chooseTwo t A B (freeOf (tracksOf t d)) N)
+      → x ≡ action t top bottom c (tracksOf t d)
+  unfolding action actionOf
+  column-is m r ex =
+      let J : ℕ → Joint = jointOf top bottom c (tracksOf t d) in
+      let p = top-is r in
+      let q = bottom-is r in
+      let e : x ≡ chooseTwo t A B (freeOf (tracksOf t d)) (leaving (J (extendedNet top bottom c (tracksOf t d)))) =
+      ex _ (λ v nx.
+      joint-is top bottom first last (r .spans) h c v (extended-small top bottom first last (r .spans) h c so v nx)
+      ∙ ap (λ (u : ℕ). leaving (J u)) (extended-is top bottom first last (r .spans) h c so v nx)) in
+      rw (r .is ∙ m) (cc (two-same A B (freeOf (tracksOf t d)) (J (extendedNet top bottom c (tracksOf t d))) t))
+
+  -- and of a many-pin channel
+  pub column-many-is : fam ≡ ManyPin → Ready top bottom first last t fam → (free : Free) (v : ℕ) (N : Joint) (b : Bool) → free ≡ freeOf (tracksOf t d) → ToJoin s w v
+      → N ≡ jointBy (getD last v 0) (getD low v 0) (second v (tracksOf t d)) (getD high v 0) c v → b ≡ ltb (c + 1) (getD last (getD top c 0) 0)
+      → x ≡ chooseMany t A B free N b → x ≡ action t top bottom c (tracksOf t d)
+  unfolding action actionOf
+  column-many-is m r free v N b ef nx en el ex =
+      let J : ℕ → Joint = jointOf top bottom c (tracksOf t d) in
+      let p = top-is r in
+      let q = bottom-is r in
+      let n : N ≡ leaving (J (netToJoin top bottom c (tracksOf t d))) =
+      en ∙ joint-is top bottom first last (r .spans) h c v (to-join-small top bottom first last (r .spans) h c so (ap narrow m) v nx)
+      ∙ ap (λ (u : ℕ). leaving (J u)) (to-join-is top bottom first last (r .spans) h c so (ap narrow m) v nx) in
+      let l : b ≡ Drawing.later top bottom (suc c) (getD top c 0) = el ∙ ap (λ (k : ℕ). ltb k (getD last (getD top c 0) 0)) (add-one c) ∙ sym (r .spans .after (suc c) (getD top c 0) (r .tops c)) in
+      rw (r .is ∙ m) (cc (many-same A B free (J (netToJoin top bottom c (tracksOf t d))) t b))
+
+-- ---- one column after another
+
+-- one column more fits
+pub fits-next : (n i each : ℕ) → i < n → i * each + each ≤ n * each
+fits-next n i each h = subst (λ (x : ℕ). x ≤ n * each) (suc-mul i each) (mul-le-mul-right each h)
+
+-- where the next column begins
+pub at-next : (at i each : ℕ) → at ≡ i * each → at + each ≡ (i + 1) * each
+at-next at i each e = cc (add-one i, suc-mul i each)
+
+-- what the arrays hold are their own tracks
+pub keeps-own : {last : List ℕ} {t : ℕ} {fam : Family} {c : ℕ} {tr a f l h n s w : List ℕ} → Keeps last t fam c tr a f l h n s w → Keeps last t fam c (tracksOf t a) a f l h n s w
+keeps-own k = record { holds = own (k .holds); marked = k .marked }
+
+-- the rows and the last columns of a channel
+pub rows-and-lasts : {top bottom first last : List ℕ} {t : ℕ} {fam : Family} → Ready top bottom first last t fam → RowsAndLasts top bottom last
+rows-and-lasts r = record { rows = r .rows; most = r .most; tops = r .tops; bottoms = r .bottoms; lasts = r .spans .after }
+
+-- the column's action, by the arrays' tracks, is that of the gap which they hold
+pub action-at : (top bottom : List ℕ) (c : ℕ) (x : Action) {t : ℕ} {tr a f l h n : List ℕ} → Holds t tr a f l h n → x ≡ action t top bottom c (tracksOf t a) → x ≡ action t top bottom c tr
+action-at top bottom c x {t} w e = e ∙ ap (action t top bottom c) (w .is)
+
+-- the column's action fits the arrays' tracks
+pub fitting-at : (top bottom : List ℕ) (c : ℕ) (x : Action) {t : ℕ} {tr a f l h n : List ℕ} → Holds t tr a f l h n → x ≡ action t top bottom c (tracksOf t a) → Fitting top bottom c (action t top bottom c tr) tr → Fitting top bottom c x (tracksOf t a)
+fitting-at top bottom c x {t} {tr} {a} w e p =
+    subst (λ (z : Action). Fitting top bottom c z (tracksOf t a)) (sym e) (subst (λ (z : List ℕ). Fitting top bottom c (action t top bottom c z) z) (sym (w .is)) p)
+
+-- the arrays hold the next gap
+gap-next : (top bottom : List ℕ) (i : ℕ) (x : Action) {t : ℕ} {a f l h n a′ f′ l′ h′ n′ : List ℕ} → Holds t (gap t top bottom i) a f l h n → x ≡ action t top bottom i (tracksOf t a)
+    → Holds t (after x (tracksOf t a)) a′ f′ l′ h′ n′ → Holds t (gap t top bottom (i + 1)) a′ f′ l′ h′ n′
+unfolding gap
+gap-next top bottom i x {t} {a} {f} {l} {h} {n} {a′} {f′} {l′} {h′} {n′} w e u =
+    let s : after x (tracksOf t a) ≡ after (action t top bottom i (gap t top bottom i)) (gap t top bottom i) = cc in
+    rw add-one (subst (λ (z : List ℕ). Holds t z a′ f′ l′ h′ n′) s u)
+
+-- so do the sets
+pub at-gap-next : (top bottom : List ℕ) (c : ℕ) (x : Action) {last : List ℕ} {t : ℕ} {fam : Family} {a f l h n s w a′ f′ l′ h′ n′ s′ w′ : List ℕ}
+    → AtGap top bottom last t fam c a f l h n s w → x ≡ action t top bottom c (tracksOf t a) → Keeps last t fam (c + 1) (after x (tracksOf t a)) a′ f′ l′ h′ n′ s′ w′
+    → AtGap top bottom last t fam (c + 1) a′ f′ l′ h′ n′ s′ w′
+at-gap-next top bottom c x g e k = record { holds = gap-next top bottom c x (g .holds) e (k .holds); marked = k .marked }
+
+-- a column's part of the layout
+pub part-length : (l : List ℕ) (at each : ℕ) → at + each ≤ length l → length (take (at + each - at) (drop at l)) ≡ each
+part-length l at each h = simp (length-take, length-drop) (omega arith)
+
+-- the column's wires are flat
+pub flat-at : (t : ℕ) (top bottom : List ℕ) (c : ℕ) (x : Action) → x ≡ action t top bottom c (gap t top bottom c) → FitsAt t top bottom c → Flat (x .wires)
+flat-at t top bottom c x e f = subst (λ (z : Action). Flat (z .wires)) (sym e) (f .plain .flat)
+
+-- one column more is drawn
+drawn-suc : (t : ℕ) (top bottom : List ℕ) (i : ℕ) → drawn t top bottom (i + 1) ≡ drawn t top bottom i ++ (verticals t (action t top bottom i (gap t top bottom i)) ++ gap t top bottom (i + 1))
+unfolding drawn
+drawn-suc t top bottom i = rw add-one
+
+-- the entries of column i + 1, as the writer leaves them
+column-next : (top bottom : List ℕ) (i : ℕ) (x : Action) (ys : List ℕ) {t : ℕ} {a f l h n : List ℕ} → x ≡ action t top bottom i (gap t top bottom i)
+    → Holds t (gap t top bottom (i + 1)) a f l h n → ys ≡ verticals t x ++ tracksOf t a → drawn t top bottom (i + 1) ≡ drawn t top bottom i ++ ys
+column-next top bottom i x ys {t} {a} e u y =
+    let s : ys ≡ verticals t (action t top bottom i (gap t top bottom i)) ++ gap t top bottom (i + 1) = cc (u .is) in
+    drawn-suc t top bottom i ∙ ap (λ (z : List ℕ). drawn t top bottom i ++ z) (sym s)
+
+-- its entries
+length-next : (t : ℕ) (top bottom : List ℕ) (i each : ℕ) (ys : List ℕ) → length (drawn t top bottom i) ≡ i * each → length ys ≡ each → drawn t top bottom (i + 1) ≡ drawn t top bottom i ++ ys
+    → length (drawn t top bottom (i + 1)) ≡ (i + 1) * each
+length-next t top bottom i each ys e f g = ap length g ∙ length-append (drawn t top bottom i) ys ∙ cc (add-one i, suc-mul i each)
+
+-- the layout then
+layout-next : (t : ℕ) (top bottom l₀ l ys : List ℕ) (i at each : ℕ) → at ≡ i * each → l ≡ drawn t top bottom i ++ drop (i * each) l₀ → length (drawn t top bottom i) ≡ i * each
+    → drawn t top bottom (i + 1) ≡ drawn t top bottom i ++ ys
+    → take at l ++ (ys ++ drop (at + each - at) (drop at l)) ≡ drawn t top bottom (i + 1) ++ drop ((i + 1) * each) l₀
+layout-next t top bottom l₀ l ys i at each ea el en ed =
+    let D : List ℕ = drawn t top bottom i in
+    let R : List ℕ = drop (i * each) l₀ in
+    let len : length D ≡ at = en ∙ sym ea in
+    let t1 : take at l ≡ D = ap (take at) el ∙ take-at D R at len in
+    let d1 : drop at l ≡ R = ap (drop at) el ∙ drop-at D R at len in
+    let n1 : at + each - at ≡ each = add-sub-cancel-left at each in
+    let r1 : drop each R ≡ drop ((i + 1) * each) l₀ = drop-drop each (i * each) l₀ ∙ ap (λ (z : ℕ). drop z l₀) (ap (λ (z : ℕ). z + each) (sym ea) ∙ at-next at i each ea) in
+    let whole : take at l ++ (ys ++ drop (at + each - at) (drop at l)) ≡ D ++ (ys ++ drop ((i + 1) * each) l₀) = cc in
+    whole ∙ sym (append-assoc D ys (drop ((i + 1) * each) l₀)) ∙ ap (λ (z : List ℕ). z ++ drop ((i + 1) * each) l₀) (sym ed)
+
+-- nothing is drawn yet
+pub none-drawn : (top bottom : List ℕ) (t : ℕ) (l : List ℕ) → DrawnTo top bottom t 0 l l
+unfolding drawn
+none-drawn top bottom t l = record { shows = rw zero-mul; sized = sym (zero-mul (2 * t + 1)) }
+
+-- one column more
+pub drawn-next : (top bottom l₀ l ys : List ℕ) (i at : ℕ) (x : Action) {t : ℕ} {a f low high n : List ℕ} → at ≡ i * (2 * t + 1)
+    → DrawnTo top bottom t i l₀ l → x ≡ action t top bottom i (gap t top bottom i) → Holds t (gap t top bottom (i + 1)) a f low high n
+    → ys ≡ verticals t x ++ tracksOf t a → length ys ≡ 2 * t + 1
+    → DrawnTo top bottom t (i + 1) l₀ (take at l ++ (ys ++ drop (at + (2 * t + 1) - at) (drop at l)))
+drawn-next top bottom l₀ l ys i at x {t} ea D ex h ey en =
+    let d = column-next top bottom i x ys ex h ey in
+    record {
+      shows = layout-next t top bottom l₀ l ys i at (2 * t + 1) ea (D .shows) (D .sized) d;
+      sized = length-next t top bottom i (2 * t + 1) ys (D .sized) en d;
+    }

@@ -1,0 +1,89 @@
+-- `draw` meets its contract: the sweep, then the columns added.
+use Rattle.router.proofs.Laws.Added
+use Rattle.router.proofs.Laws.Begin
+use Rattle.router.proofs.Laws.Arrays.{own}
+use lib.ListN.{length}
+use borrow.Author.Needs.{needs}
+use Rattle.router.proofs.draw.Statement.{statement}
+use Rattle.router.proofs.draw.Tie as tie
+
+no-tracks-requires : tie.Need-no-tracks-requires
+no-tracks-requires c κs = search needs
+
+all-free-requires : tie.Need-all-free-requires
+all-free-requires c κs = search needs
+
+no-nets-requires : tie.Need-no-nets-requires
+no-nets-requires c κs = search needs
+
+no-nets-requires-2 : tie.Need-no-nets-requires-2
+no-nets-requires-2 c κs = search needs
+
+no-nets-requires-3 : tie.Need-no-nets-requires-3
+no-nets-requires-3 c κs = search needs
+
+empty-requires : tie.Need-empty-requires
+empty-requires c κs = search needs
+
+empty-requires-2 : tie.Need-empty-requires-2
+empty-requires-2 c κs = search needs
+
+sweep-columns-requires : tie.Need-sweep-columns-requires
+sweep-columns-requires c κs =
+    let e = c .before .before .before .before .before .before .before .before in
+    let o = e .before .before .before .before .before .before .before .before .before .before in
+    let tracks = e .before .before .before .before .before .before .no-tracks in
+    let free = e .before .before .before .before .before .all-free in
+    let low = e .before .before .before .before .no-nets in
+    let high = e .before .before .before .no-nets2 in
+    let number = e .before .before .no-nets3 in
+    let extended = e .before .empty in
+    let wide = e .empty2 in (
+      o .pre .0,
+      (
+        o .pre .1 .0,
+        (
+          Begin.begins (o .args .top .now) (o .args .bottom .now) (o .args .last .now) (o .args .t) (o .args .family) (tracks .result) (free .result) (low .result)
+              (high .result) (number .result) (extended .result) (wide .result) (o .pre .0 .fits) (tracks .ensures) (free .ensures) (low .ensures) (high .ensures)
+              (number .ensures) (extended .ensures) (wide .ensures),
+          Added.sweep-fits (o .args .t) (o .args .top .now) (o .args .bottom .now) (length (o .args .layout .now)) (o .pre .1 .1 .1),
+        ),
+      ),
+    )
+
+finish-requires : tie.Need-finish-requires
+finish-requires c κs =
+    let e = c .before .before .before .before .before .before .before .before .before in
+    let s = e .sweep-columns in
+    let o = e .before .before .before .before .before .before .before .before .before .before .before .before .before .before .before .before .before .before .before in
+    let z = Added.fits-all (o .args .t) (o .args .top .now) (o .args .bottom .now) (s .ensures .0 .holds) 511 (length (o .args .layout .now)) (length (s .last .1 .1 .0))
+    (s .kept .1 .1 .0) (o .pre .1 .1 .0) (o .pre .1 .1 .1) in
+    let h = own (s .ensures .0 .holds) in
+    (o .pre .0 .most, (z .0, (h, (Begin.all-remain (o .args .top .now) (o .args .bottom .now) (o .args .first .now) (o .args .last .now) _ _ (o .args .family) (o .pre .0 .spans) (o .pre .0 .rows) h (s .ensures .0 .marked), z .1))))
+
+same-length : tie.Need-same-length
+same-length c = search needs
+
+returns : tie.Need-returns
+returns c =
+    let f = c .before .before .finish in
+    let e = c .before .before .before .before .before .before .before .before .before .before .before .before in
+    let s = e .sweep-columns in
+    let o = e .before .before .before .before .before .before .before .before .before .before .before .before .before .before .before .before .before .before .before in
+    Added.all-drawn (o .args .t) (o .args .top .now) (o .args .bottom .now) (s .ensures .0 .holds) (o .args .layout .now) (s .last .1 .1 .0) (f .last .0) (f .result) (s .ensures .1 .shows) (s .ensures .1 .sized) (f .ensures .0) (f .ensures .1)
+
+pub draw-spec : {M : Type 1} → statement M
+draw-spec =
+    tie.close
+    (tie.spec
+    no-tracks-requires
+    all-free-requires
+    no-nets-requires
+    no-nets-requires-2
+    no-nets-requires-3
+    empty-requires
+    empty-requires-2
+    sweep-columns-requires
+    finish-requires
+    same-length
+    returns)

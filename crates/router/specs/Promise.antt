@@ -1,0 +1,18 @@
+-- What an accepted routing call promises of its drawing besides.
+use Prim.Native.Nat.{_+_, _-_, _*_}
+use mathlib.Core.Path.{_≡_}
+use mathlib.Core.List.{List}
+use Prim.Native.Nat.{ℕ}
+use lib.ListN.{take}
+use Rattle.grid.specs.declared.Family.the-variants.{TwoPin, ManyPin}
+use Rattle.grid.specs.Channel.{density, family}
+use Rattle.grid.specs.Grid.{Solution}
+use Rattle.router.specs.declared.Figures.{Figures}
+
+-- "A routing call's drawing is the first w × (2t + 1) entries of its slice, with the t and w that it reports": it is a solution, and "its tracks are d
+-- where each net has two pins, else 2d - 1"
+pub record Solves (top bottom slice : List ℕ) (x : Figures) : Type 0 where
+  pub solution : Solution top bottom (x .width) (x .tracks) (take (x .width * (2 * x .tracks + 1)) slice)
+  pub dense : x .density ≡ density top bottom
+  pub two : family top bottom ≡ TwoPin → x .tracks ≡ x .density
+  pub many : family top bottom ≡ ManyPin → x .tracks ≡ 2 * x .density - 1

@@ -1,0 +1,90 @@
+// The columns added after column n.
+use crate::actions;
+use crate::index;
+use crate::nets;
+use crate::writer;
+use grid::Segments;
+use sweep::Action;
+ghost use mathlib.Core.Path.{_≡_};
+ghost use Prim.Native.Nat.{_+_, _*_, _<_, _≤_};
+ghost use lib.ListN.{length, take, drop};
+ghost use mathlib.Core.List.{_++_};
+ghost use Rattle.grid.specs.Channel.{count};
+ghost use Rattle.sweep.specs.Tracks.{clear};
+ghost use Rattle.sweep.specs.Rules.{act, noTrack};
+ghost use Rattle.sweep.specs.Drawing.{remains, added};
+ghost use Rattle.router.specs.Working.{tracksOf, Holds, Remaining, withJoining};
+
+// The action that joins the strands of a net, from the lowest to the highest, and nothing else.
+fn joining(v: u16, low: u16, high: u16) -> Action
+    ensures { λ r. ⌜ r ≡ act (record { bottom = 0; low = 0; start = low; middle = v; stop = high; high = high; top = 0 }) v 0 noTrack noTrack noTrack ⌝ }
+{
+    let wires = Segments {
+        bottom: 0,
+        low: 0,
+        start: low,
+        middle: v,
+        stop: high,
+        high,
+        top: 0,
+    };
+    actions::one_gift(wires, v, actions::no_track())
+}
+
+// Adds the column that joins net v, as column w + 1.
+fn join_net(
+    layout: &mut [u16],
+    tracks: &mut [u16; 512],
+    free: &mut [u64; 8],
+    low: &mut [u16; 257],
+    high: &mut [u16; 257],
+    many: &mut [u16; 257],
+    t: usize,
+    v: u16,
+    w: usize,
+)
+    requires { ⌜ (0 < v) × (v ≤ 256) × (w ≤ 511) ⌝ }
+    requires { ⌜ Holds t (tracksOf t (now tracks)) (now tracks) (now free) (now low) (now high) (now many) ⌝ }
+    requires { ⌜ w * (2 * t + 1) + (2 * t + 1) ≤ length (now layout) ⌝ }
+    ensures { λ _. ⌜ Holds t (clear v (tracksOf t (now (tracks .entry))))
+        (now (tracks .exit)) (now (free .exit)) (now (low .exit)) (now (high .exit)) (now (many .exit)) ⌝ }
+    ensures { λ _. ⌜ now (layout .exit) ≡ withJoining t (tracksOf t (now (tracks .entry))) v w (now (layout .entry)) ⌝ }
+{
+    let i = v as usize;
+    let x = joining(v, low[i], high[i]);
+    index::drop_net(tracks, free, low, high, many, t, v);
+    let each = 2 * t + 1;
+    let at = w * each;
+    writer::write_column(&mut layout[at..at + each], tracks, t, x);
+}
+
+// Adds a column for each net that still has strands, lowest number first; n columns are drawn. The answer is the width.
+pub(crate) fn finish(
+    layout: &mut [u16],
+    tracks: &mut [u16; 512],
+    free: &mut [u64; 8],
+    low: &mut [u16; 257],
+    high: &mut [u16; 257],
+    many: &mut [u16; 257],
+    extended: &[u64; 8],
+    t: usize,
+    n: usize,
+) -> usize
+    requires { ⌜ n ≤ 256 ⌝ }
+    requires { ⌜ n + count (remains (tracksOf t (now tracks))) 256 ≤ 511 ⌝ }
+    requires { ⌜ Holds t (tracksOf t (now tracks)) (now tracks) (now free) (now low) (now high) (now many) ⌝ }
+    requires { ⌜ Remaining (tracksOf t (now tracks)) (now extended) ⌝ }
+    requires { ⌜ (n + count (remains (tracksOf t (now tracks))) 256) * (2 * t + 1) ≤ length (now layout) ⌝ }
+    ensures { λ r. ⌜ r ≡ n + count (remains (tracksOf t (now (tracks .entry)))) 256 ⌝ }
+    ensures { λ r. ⌜ now (layout .exit) ≡ take (n * (2 * t + 1)) (now (layout .entry))
+        ++ (added t (tracksOf t (now (tracks .entry))) 256 ++ drop (r * (2 * t + 1)) (now (layout .entry))) ⌝ }
+{
+    let mut w = n;
+    let mut v = nets::lowest_net(extended);
+    while v != 0 {
+        join_net(layout, tracks, free, low, high, many, t, v, w);
+        w += 1;
+        v = nets::next_net(extended, v);
+    }
+    w
+}

@@ -1,0 +1,88 @@
+-- Pairs of kinds: their number taken apart, and what a column of a two-pin channel does by them.
+use Prim.Native.Nat.{ℕ, zero, suc, _+_, _*_, _/_, _%_, _≤_, _<_}
+use mathlib.Core.Path.{_≡_, refl, sym, ap, ap₂, _∙_}
+use mathlib.Core.Bool.{Bool, true, false, not, _&&_}
+use mathlib.Core.Logic.{_≢_}
+use native.Mathlib.Omega.{arith}
+use lib.Dec.{eqb, ltb}
+use Rattle.grid.proofs.Tests.{eqb-true, Same, same, diff, sameBy, Below, below, above, belowBy}
+use Rattle.sweep.specs.declared.Action.{Action}
+use Rattle.sweep.specs.declared.Pin.{Pin}
+use Rattle.sweep.specs.declared.Free.{Free}
+use Rattle.sweep.specs.declared.Joint.{Joint}
+use Rattle.sweep.specs.Rules.{Kind, none, starts, continues, ends, kindOf, straight}
+use Rattle.sweep.specs.TwoPin.{chooseTwo, byKinds}
+
+-- what a function g of two kinds k and l answers, by their number m
+pub at-number : (g : Kind → Kind → Action) (k l m : ℕ) {x : Action} → 4 * k + l ≡ m → (k ≤ 3) × (l ≤ 3) → x ≡ g (kindOf (m / 4)) (kindOf (m % 4)) → x ≡ g (kindOf k) (kindOf l)
+at-number g k l m e h r =
+    let p : k ≡ m / 4 = omega arith in
+    let q : l ≡ m % 4 = omega arith in
+    r ∙ sym (ap₂ (λ (x y : ℕ). g (kindOf x) (kindOf y)) p q)
+
+-- a number that is none of 1 to k, as the rest of a match on them says it
+abbrev pub NoneOf : ℕ → ℕ → Type 0
+NoneOf m zero = Unit {0}
+NoneOf m (suc k) = NoneOf m k × (m ≡ suc k → ⊥)
+
+-- a number that is none of 1 to k, and at most k, is 0
+pub none-of : (m k : ℕ) → m ≤ k → NoneOf m k → m ≡ 0
+none-of m zero h r = omega arith
+none-of m (suc k) h r = none-of m k (omega (arith, r .1)) (r .0)
+
+-- two numbers that differ are not both 0
+pub not-both-none : (a b : ℕ) → (a ≡ b → ⊥) → (eqb a 0 && eqb b 0) ≡ false
+not-both-none a b h = go (eqb a 0) (eqb b 0) refl refl
+  where
+    go : (p q : Bool) → eqb a 0 ≡ p → eqb b 0 ≡ q → (p && q) ≡ false
+    go false q e f = refl
+    go true false e f = refl
+    go true true e f = absurd (h (eqb-true a 0 e ∙ sym (eqb-true b 0 f)))
+
+-- the kind opposite one that does not continue, where the number of the pair is none of those of pins that start, end or are none
+opposite-start : (k l : ℕ) → k < 2 → l ≤ 3 → 4 * k + l ≢ 0 → 4 * k + l ≢ 1 → 4 * k + l ≢ 3 → 4 * k + l ≢ 4 → 4 * k + l ≢ 5 → 4 * k + l ≢ 7 → l ≡ 2
+opposite-start k l i h m0 m1 m3 m4 m5 m7 = omega arith
+
+opposite-end : (k l : ℕ) → 2 ≤ k → k ≢ 2 → (k ≤ 3) × (l ≤ 3) → 4 * k + l ≢ 12 → 4 * k + l ≢ 13 → 4 * k + l ≢ 15 → l ≡ 2
+opposite-end k l i j h a b c = omega arith
+
+module _ (A B : Pin) (f : Free) (N : Joint) where
+  -- a column of a two-pin channel with a pin that continues its net
+  top-idle : (l : Kind) → byKinds A B f N continues l ≡ straight
+  unfolding byKinds
+  top-idle none = refl
+  top-idle starts = refl
+  top-idle continues = refl
+  top-idle ends = refl
+
+  bottom-idle : (k : Kind) → byKinds A B f N k continues ≡ straight
+  unfolding byKinds
+  bottom-idle none = refl
+  bottom-idle starts = refl
+  bottom-idle continues = refl
+  bottom-idle ends = refl
+
+  -- such are the pairs but for those of pins that start, end or are none
+  pub idle : (k l : ℕ) → (k ≤ 3) × (l ≤ 3) → 4 * k + l ≢ 0 → 4 * k + l ≢ 1 → 4 * k + l ≢ 3 → 4 * k + l ≢ 4 → 4 * k + l ≢ 5 → 4 * k + l ≢ 7 → 4 * k + l ≢ 12 → 4 * k + l ≢ 13
+      → 4 * k + l ≢ 15 → byKinds A B f N (kindOf k) (kindOf l) ≡ straight
+  unfolding kindOf
+  idle k l h m0 m1 m3 m4 m5 m7 m12 m13 m15 = go (ltb k 2) (eqb k 2) (belowBy k 2) (sameBy k 2)
+    where
+      bottom : l ≡ 2 → byKinds A B f N (kindOf k) (kindOf l) ≡ straight
+      bottom e = ap (λ (z : ℕ). byKinds A B f N (kindOf k) (kindOf z)) e ∙ bottom-idle (kindOf k)
+
+      go : (p q : Bool) → Below k 2 p → Same k 2 q → byKinds A B f N (kindOf k) (kindOf l) ≡ straight
+      go true q (below i) j = bottom (opposite-start k l i (h .1) m0 m1 m3 m4 m5 m7)
+      go false true (above i) (same j) = ap (λ (z : ℕ). byKinds A B f N (kindOf z) (kindOf l)) j ∙ top-idle (kindOf l)
+      go false false (above i) (diff j) = bottom (opposite-end k l i j h m12 m13 m15)
+
+  -- a column whose pins are not of one net goes by their kinds
+  pub by-kinds : (t : ℕ) {x : Action} → (not (eqb (A .net) 0) && eqb (A .net) (B .net)) ≡ false
+      → x ≡ byKinds A B f N (kindOf (A .kind)) (kindOf (B .kind)) → x ≡ chooseTwo t A B f N
+  unfolding chooseTwo
+  by-kinds t i r = rw i (cc)
+
+  -- and so by the number of their pair
+  pub by-number : (t m : ℕ) {x : Action} → (not (eqb (A .net) 0) && eqb (A .net) (B .net)) ≡ false → 4 * A .kind + B .kind ≡ m → (A .kind ≤ 3) × (B .kind ≤ 3)
+      → x ≡ byKinds A B f N (kindOf (m / 4)) (kindOf (m % 4)) → x ≡ chooseTwo t A B f N
+  by-number t m i e h r = by-kinds t i (at-number (byKinds A B f N) (A .kind) (B .kind) m e h r)
