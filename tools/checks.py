@@ -99,7 +99,7 @@ def spiral(w, t):
     d = Drawing(w, t)
     d.up(0, t)
     d.up(0, 0)
-    x, y, left, low, wide, high = 0, 1, 0, 1, w - 1, t
+    left, low, wide, high = 0, 1, w - 1, t
     while left < wide and low < high:
         d.line(left, low, wide, low)
         d.line(wide, low, wide, high)

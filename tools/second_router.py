@@ -11,7 +11,7 @@ It keeps the tracks of each net as a set, draws wires row by row, and finds piec
 import os
 import sys
 
-from second_sweep import LARGEST, density, many_pins, need, net_report, pin_counts, refusal, route, tracks
+from second_sweep import LARGEST, pin_counts, refusal, route
 
 WIDEST = 511  # width and tracks of a drawing that is checked
 LISTED = 64  # columns of a channel that is listed

@@ -55,18 +55,6 @@ def tracks(top, bottom):
     return 2 * d - 1 if many_pins(top, bottom) else d
 
 
-def need(top, bottom):
-    """The length of slice below which a routing call is refused with 8."""
-    t = tracks(top, bottom)
-    return (len(top) + t // 2) * (2 * t + 1)
-
-
-def net_report(top, bottom):
-    """First column, last column and pins for each number 1 to 256."""
-    counts, ends = pin_counts(top, bottom), span(top, bottom)
-    return [ends.get(net, (0, 0)) + (counts.get(net, 0),) for net in range(1, LARGEST + 1)]
-
-
 # Sweep
 
 

@@ -38,8 +38,8 @@ exit "${KNEE_STATUS:-0}"
 """
 
 
-def start(root, *words, stdout=subprocess.PIPE, cwd=None, **env):
-    given = {"stdin": subprocess.DEVNULL, "stdout": stdout, "stderr": subprocess.PIPE, "cwd": cwd, "text": True}
+def start(root, *words, stdout=subprocess.PIPE, **env):
+    given = {"stdin": subprocess.DEVNULL, "stdout": stdout, "stderr": subprocess.PIPE, "text": True}
     return subprocess.Popen([root / "route", *words], env={**os.environ, **env}, **given)
 
 

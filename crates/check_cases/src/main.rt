@@ -14,7 +14,7 @@ fn word_room() -> [u16; 524288]
 }
 
 // A byte as a word.
-fn wide(b: u8) -> u16
+fn widened(b: u8) -> u16
     ensures { λ r. ⌜ r ≤ 255 ⌝ }
 {
     b as u16
@@ -89,7 +89,7 @@ fn run_cases(words: &[u16])
 fn word(bytes: &[u8], i: usize) -> u16
     requires { ⌜ i + 1 < length (now bytes) ⌝ }
 {
-    wide(bytes[i]) + 256 * wide(bytes[i + 1])
+    widened(bytes[i]) + 256 * widened(bytes[i + 1])
 }
 
 // The words of some bytes, as many as have room; how many.

@@ -133,7 +133,7 @@ module _ (top bottom : List ℕ) (w t : ℕ) (D : List ℕ) (e : ℕ) (x : e ≡
   module _ (e′ : length D ≤ e) where
     -- the entries are nets, so they are at most 256
     pub within : (table : List ℕ) → PinTable top bottom table → length D ≡ w * (2 * t + 1) → w ≤ 511 → t ≤ 511 → Within D w t
-    within table K d b c = record { size = d; wide = b; high = c; nets = small }
+    within table K d b c = record { size = d; widthFits = b; high = c; nets = small }
       where
         small : (i : ℕ) → getD D i 0 ≤ 256
         small i =

@@ -1,13 +1,13 @@
 -- The least number that passes a test, and searches for it from below.
 use Prim.Native.Nat.{ℕ, zero, suc, _+_, _≤_, _<_}
-use mathlib.Core.Path.{_≡_, refl, sym, ap, _∙_}
+use mathlib.Core.Path.{_≡_, refl, sym}
 use mathlib.Core.Logic.{_≢_, _↔_, by-cases}
 use mathlib.Core.Bool.{Bool, true, false}
 use lib.Dec.{ltb}
 use native.Mathlib.Omega.{arith}
 use native.Mathlib.Decide.{ℕ-discrete, decLe}
-use Rattle.grid.specs.Channel.{pick, bit}
-use Rattle.grid.proofs.Tests.{lt-ltb, le-ltb, ltb-true, ltb-false}
+use Rattle.grid.specs.Channel.{pick}
+use Rattle.grid.proofs.Tests.{lt-ltb, le-ltb, ltb-true, ltb-false, not-both}
 use Rattle.checker.specs.Check.{least, some}
 
 -- n if none passes
@@ -70,21 +70,17 @@ below-least (suc n) P k i l = go (λ z y. below-least n P k z y) (ltb (least n P
         let y = ltb-false (least n P) n e in
         by-cases (ℕ-discrete k n) (λ x. rw x o) (λ x. r (omega arith) (omega arith))
 
--- a test does not both pass and fail
-pub not-both : (b : Bool) → b ≡ true → b ≡ false → ⊥
-not-both b e f = let z : _≡_ {A = ℕ} 1 0 = ap bit (sym e ∙ f) in omega arith
-
 -- if some number below n passes, the least passes, is below n, and is at most each that passes
 least-is :
     (n : ℕ) (P : ℕ → Bool) → some n P ≡ true
     → (P (least n P) ≡ true) × (least n P < n) × ((q : ℕ) → q < n → P q ≡ true → least n P ≤ q)
 least-is n P s =
     let l : least n P < n = ltb-true (least n P) n s in
-    (least-passes n P l, l, λ q k e. by-cases (decLe (least n P) q) (λ z. z) (λ z. absurd (not-both (P q) e (below-least n P q k (omega arith)))))
+    (least-passes n P l, l, λ q k e. by-cases (decLe (least n P) q) (λ z. z) (λ z. absurd (not-both e (below-least n P q k (omega arith)))))
 
 -- if none does, none does
 some-none : (n : ℕ) (P : ℕ → Bool) → some n P ≡ false → (q : ℕ) → q < n → P q ≢ true
-some-none n P s q k e = not-both (P q) e (least-all n P (ltb-false (least n P) n s) q k)
+some-none n P s q k e = not-both e (least-all n P (ltb-false (least n P) n s) q k)
 
 -- both in words W for the test
 module _ (n : ℕ) (P : ℕ → Bool) (W : ℕ → Type 0) (words : (q : ℕ) → q < n → (P q ≡ true) ↔ W q) where

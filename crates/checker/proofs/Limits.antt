@@ -4,15 +4,17 @@ use mathlib.Core.Path.{_≡_}
 use mathlib.Core.Logic.{by-cases}
 use native.Mathlib.Omega.{arith}
 use native.Mathlib.Decide.{decLt}
-use native.Mathlib.Nat.{mul-le-mul-right, mul-div-cancel}
+use native.Mathlib.Nat.{mul-le-mul-right}
+use Rattle.grid.proofs.Views.{product-le}
+use Rattle.grid.proofs.Drawings.Flat.{column-of}
 
 -- it has few entries
 pub few-entries : (w t : ℕ) → w ≤ 511 → t ≤ 511 → w * (2 * t + 1) ≤ 511 * 1023
-few-entries w t a b = omega (arith, mul-le-mul-right (2 * t + 1) a)
+few-entries w t a b = product-le w (2 * t + 1) a (omega arith)
 
 -- the column at b is number x
 pub index-of : (t b x : ℕ) → b ≡ x * (2 * t + 1) → b / (2 * t + 1) ≡ x
-index-of t b x e = rw e (mul-div-cancel x {n = 2 * t + 1} (omega arith))
+index-of t b x e = column-of t b x 0 (omega arith) (omega arith)
 
 -- a column lies within the drawing
 pub column-inside : (w t x b n : ℕ) → x < w → b ≡ x * (2 * t + 1) → n ≡ w * (2 * t + 1) → b + (2 * t + 1) ≤ n

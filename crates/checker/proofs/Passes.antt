@@ -1,5 +1,5 @@
 -- The checker passes exactly the solutions: `passes-solutions`.
-use Prim.Native.Nat.{ℕ, zero, suc, _+_, _*_, _/_, _%_, _≤_, _<_}
+use Prim.Native.Nat.{ℕ, suc, _+_, _*_, _/_, _%_, _≤_, _<_}
 use mathlib.Core.Path.{_≡_, refl, sym, _∙_, ap}
 use mathlib.Core.Logic.{_≢_, _↔_, _⊎_, ⊎-elim, by-cases}
 use mathlib.Core.Bool.{Bool, false}
@@ -10,9 +10,9 @@ use native.Mathlib.Omega.{arith}
 use native.Mathlib.Decide.{decLe, decLt}
 use native.Mathlib.Nat.{mod-lt, div-add-mod', mul-le-mul-right}
 use Rattle.grid.specs.Channel.{pins, rowsRefused}
-use Rattle.grid.specs.Refusals.{firstRefusal}
 use Rattle.grid.specs.Grid.{OnePiece, verticalOf, horizontalOf, Solution}
 use Rattle.grid.proofs.Tests.{eq-eqb, eqb-true, le-ltb, ltb-false, not-false, or-false, pick-past}
+use Rattle.grid.proofs.Answers.{first-past}
 use Rattle.grid.proofs.Rows.{RowsFit, rows-fit}
 use Rattle.checker.specs.declared.Checked.the-variants.{Passed}
 use Rattle.checker.specs.Check.{numberOf, checkedBy, least, some, wrongWidth, manyTracks, wrongSize, strange, mispinned, leavesLast, split}
@@ -45,11 +45,6 @@ fine-zero : (top bottom : List ℕ) (w t : ℕ) (D : List ℕ) → Fine top bott
 unfolding refused drawingRefused entriesRefused
 fine-zero top bottom w t D f = rw (f .rows, f .width, f .tracks, f .size, f .entry, f .pin, f .last, f .piece)
 
--- the first number is 0 only if both are
-first-past : (k m : ℕ) → firstRefusal k m ≡ 0 → (k ≡ 0) × (m ≡ 0)
-first-past zero m e = (refl, e)
-first-past (suc k) m e = absurd (omega arith)
-
 -- the numbers of the table are not 0
 positive : (k : ℕ) → suc k ≢ 0
 positive k = omega arith
@@ -59,13 +54,13 @@ zero-fine : (top bottom : List ℕ) (w t : ℕ) (D : List ℕ) → refused top b
 unfolding refused drawingRefused entriesRefused
 zero-fine top bottom w t D e =
     let (f₀, e₀) = first-past (rowsRefused top bottom 256) _ e in
-    let (f₁, e₁) = pick-past _ 10 _ (positive 9) e₀ in
-    let (f₂, e₂) = pick-past _ 11 _ (positive 10) e₁ in
-    let (f₃, e₃) = pick-past _ 12 _ (positive 11) e₂ in
-    let (f₄, e₄) = pick-past _ 13 _ (positive 12) e₃ in
-    let (f₅, e₅) = pick-past _ 14 _ (positive 13) e₄ in
-    let (f₆, e₆) = pick-past _ 15 _ (positive 14) e₅ in
-    let (f₇, e₇) = pick-past _ 16 _ (positive 15) e₆ in
+    let (f₁, e₁) = pick-past _ 10 _ 0 (positive 9) e₀ in
+    let (f₂, e₂) = pick-past _ 11 _ 0 (positive 10) e₁ in
+    let (f₃, e₃) = pick-past _ 12 _ 0 (positive 11) e₂ in
+    let (f₄, e₄) = pick-past _ 13 _ 0 (positive 12) e₃ in
+    let (f₅, e₅) = pick-past _ 14 _ 0 (positive 13) e₄ in
+    let (f₆, e₆) = pick-past _ 15 _ 0 (positive 14) e₅ in
+    let (f₇, e₇) = pick-past _ 16 _ 0 (positive 15) e₆ in
     record { rows = f₀; width = f₁; tracks = f₂; size = f₃; entry = f₄; pin = f₅; last = f₆; piece = f₇ }
 
 -- a number over 256 has no edge, of accepted rows and entries that are 0 or nets: it is one piece
@@ -127,7 +122,7 @@ module _ (top bottom : List ℕ) (w t : ℕ) (D : List ℕ) where
           ltb-false 511 t (f .tracks),
           record {
             size = size-is;
-            wide = ltb-false w (length top) narrow;
+            covers = ltb-false w (length top) narrow;
             nets = nets-are;
             bottomPins = λ x l. vert-at D t x 0 (omega arith) ∙ pins-are x 0 l (omega arith) .0 refl;
             topPins = λ x l. vert-at D t x t (omega arith) ∙ pins-are x t l (omega arith) .1 refl;
@@ -156,7 +151,7 @@ module _ (top bottom : List ℕ) (w t : ℕ) (D : List ℕ) where
     solution-fine : rowsRefused top bottom 256 ≡ 0 → w ≤ 511 → t ≤ 511 → Fine top bottom w t D
     solution-fine r a b = record {
       rows = r;
-      width = rw (le-ltb w (length top) (S .wide)) (le-ltb 511 w a);
+      width = rw (le-ltb w (length top) (S .covers)) (le-ltb 511 w a);
       tracks = le-ltb 511 t b;
       size = rw (eq-eqb (length D) (w * (2 * t + 1)) (S .size));
       entry = no-low (length D) (strange top bottom D) (λ p l. not-strange top bottom D p (S .nets p l));

@@ -10,12 +10,11 @@ use native.Mathlib.Omega.{arith}
 use native.Mathlib.Nat.{mod-lt, div-add-mod'}
 use Rattle.grid.specs.Channel.{pins}
 use Rattle.grid.specs.Grid.{verticalOf, horizontalOf}
-use Rattle.grid.proofs.Tests.{eq-eqb, ne-eqb, eqb-true, eqb-false, ltb-true, not-true, and-true}
+use Rattle.grid.proofs.Tests.{eq-eqb, ne-eqb, eqb-true, eqb-false, ltb-true, not-true, and-true, not-both}
 use Rattle.checker.specs.Faults.{Strange, PinWrong, LeavesLast, Split}
 use Rattle.checker.specs.Check.{strange, mispinned, leavesLast, split}
 use Rattle.pieces.specs.Labels.{netOf}
 use Rattle.grid.proofs.Drawings.Flat.{vert-at, horz-at}
-use Rattle.checker.proofs.Least.{not-both}
 use Rattle.checker.proofs.Limits.{column-below}
 use Rattle.checker.proofs.entries.Pins.{pin-low, pin-high, wrong-pin}
 use Rattle.checker.proofs.entries.Last.{last-edge-in}
@@ -87,8 +86,8 @@ leaves-last-at w t D p = (λ h. there h, λ (x, j, e, l, o, n). back x j e l o n
 pub split-at : (t : ℕ) (D : List ℕ) (N : ℕ) → (split t D N ≡ true) ↔ Split t D N
 split-at t D N = (
   λ h. (
-    λ z. not-both (split t D N) h (not-split t D N (λ n. absurd (n z))),
-    λ o. not-both (split t D N) h (not-split t D N (λ n. o)),
+    λ z. not-both h (not-split t D N (λ n. absurd (n z))),
+    λ o. not-both h (not-split t D N (λ n. o)),
   ),
   λ (n, h). is-split t D N n h,
 )

@@ -1,4 +1,4 @@
--- Document 01, "Refused, by place": the checker's number, "checked from the top down", and its place, for the rows, the width w, the number of tracks t
+-- Document 01, "Refused, by place": the checker's number, "Checked from the top down", and its place, for the rows, the width w, the number of tracks t
 -- and the lent layout D. A position p is counted from 0; it lies in column p / (2t + 1), counted from 0, and is entry p % (2t + 1) of it.
 use Prim.Native.Nat.{ℕ, zero, suc, _+_, _*_, _/_, _%_}
 use mathlib.Core.Bool.{Bool, true, false, not, _&&_, _||_}
@@ -86,7 +86,7 @@ split t D (suc N) = isNo {A = OnePiece (verticalOf D t) (horizontalOf D t) (suc 
 
 -- WHAT IT ANSWERS
 module _ (top bottom : List ℕ) (w t : ℕ) (D : List ℕ) where
-  -- the number, "checked from the top down": of the entries and the pieces, 13 to 16
+  -- the number, "Checked from the top down": of the entries and the pieces, 13 to 16
   unfoldable pub entriesRefused : ℕ
   entriesRefused =
       pick (some (length D) (strange top bottom D)) 13

@@ -7,7 +7,7 @@ use mathlib.Core.List.{List}
 use lib.ListN.{length, getD}
 use lib.Dec.{eqb, ltb}
 use Rattle.grid.specs.Channel.{pick, bit, pins}
-use Rattle.grid.specs.Working.{Figures}
+use Rattle.grid.specs.Working.{ByNet}
 use Rattle.pieces.specs.Labels.{netOf, sub, afterLeft, afterUp, afterRight, afterPoints, leftFrom, labelled, tally, roots, lost}
 use Rattle.checker.specs.declared.Checked.{Checked}
 use Rattle.checker.specs.declared.Checked.the-variants.{Refused}
@@ -34,7 +34,7 @@ module _ (top bottom : List ℕ) (w t : ℕ) (D : List ℕ) where
 -- TESTS OF SINGLE ENTRIES
 -- a table with the pins of each net, and rows whose numbers are at most 256
 pub record PinTable (top bottom table : List ℕ) : Type 0 where
-  pub figures : Figures (pins top bottom) table
+  pub figures : ByNet (pins top bottom) table
   pub none : (N : ℕ) → 256 < N → pins top bottom N ≡ 0
 
 -- an entry that is neither 0 nor a net by the table
@@ -55,7 +55,7 @@ pub record KnownMarks (table : List ℕ) (marks : List Bool) (n : ℕ) : Type 0 
 -- a drawing within the limits, whose entries are at most 256
 pub record Within (D : List ℕ) (w t : ℕ) : Type 0 where
   pub size : length D ≡ w * (2 * t + 1)
-  pub wide : w ≤ 511
+  pub widthFits : w ≤ 511
   pub high : t ≤ 511
   pub nets : (i : ℕ) → getD D i 0 ≤ 256
 

@@ -11,7 +11,7 @@ use lib.Dec.{ltb}
 use lib.ListN.{length, getD}
 use Rattle.grid.specs.Channel.{pick, pins, rowsRefused}
 use Rattle.grid.specs.Refusals.{firstRefusal}
-use Rattle.grid.proofs.Tests.{ltb-true, eqb-true, not-false}
+use Rattle.grid.proofs.Tests.{ltb-true, eqb-true, not-false, pick-past}
 use Rattle.grid.proofs.Counting.{at-below}
 use Rattle.grid.proofs.Rows.{rows-fit}
 use Rattle.checker.specs.Check.{least, some, wrongWidth, manyTracks, wrongSize, strange, mispinned, leavesLast, split}
@@ -95,11 +95,7 @@ module _ (top bottom : List ℕ) (w t : ℕ) (D : List ℕ) where
       at-end)))))))
 
   -- THE PLACES
-  -- a line that is not the number's, and the number's own
-  past : (q : Bool) (m r n : ℕ) → m ≢ n → pick q m r ≡ n → (q ≡ false) × (r ≡ n)
-  past true m r n d e = absurd (d e)
-  past false m r n d e = (refl, e)
-
+  -- the number's own line
   here : (q : Bool) (m r : ℕ) → r ≢ m → pick q m r ≡ m → q ≡ true
   here true m r d e = refl
   here false m r d e = absurd (d e)
@@ -113,9 +109,9 @@ module _ (top bottom : List ℕ) (w t : ℕ) (D : List ℕ) where
       go : (k : ℕ) → rowsRefused top bottom 256 ≡ k → firstRefusal k (drawingRefused top bottom w t D) ≡ n
           → (rowsRefused top bottom 256 ≡ 0) × (length D ≡ w * (2 * t + 1)) × (entriesRefused top bottom w t D ≡ n)
       go zero z h =
-          let (a, h₁) = past (wrongWidth top w) 10 _ n (omega arith) h in
-          let (b, h₂) = past (manyTracks t) 11 _ n (omega arith) h₁ in
-          let (c, h₃) = past (wrongSize w t D) 12 _ n (omega arith) h₂ in
+          let (a, h₁) = pick-past (wrongWidth top w) 10 _ n (omega arith) h in
+          let (b, h₂) = pick-past (manyTracks t) 11 _ n (omega arith) h₁ in
+          let (c, h₃) = pick-past (wrongSize w t D) 12 _ n (omega arith) h₂ in
           (z, eqb-true (length D) (w * (2 * t + 1)) (not-false _ c), h₃)
       go (suc k) z h = absurd (omega (arith, z, h, rows-low top bottom 256))
 
@@ -129,19 +125,19 @@ module _ (top bottom : List ℕ) (w t : ℕ) (D : List ℕ) where
     strange-least e q =
         let (ok, size, x) = reached 13 (omega arith) e in
         let s = here (some (length D) (strange top bottom D)) 13 _ (λ h.
-        let (a, h₁) = past (some (length D) (mispinned top bottom t D)) 14 _ 13 (omega arith) h in
-        let (b, h₂) = past (some (length D) (leavesLast w t D)) 15 _ 13 (omega arith) h₁ in
-        let (c, h₃) = past (some 257 (split t D)) 16 0 13 (omega arith) h₂ in omega (arith, h₃)) x in
+        let (a, h₁) = pick-past (some (length D) (mispinned top bottom t D)) 14 _ 13 (omega arith) h in
+        let (b, h₂) = pick-past (some (length D) (leavesLast w t D)) 15 _ 13 (omega arith) h₁ in
+        let (c, h₃) = pick-past (some 257 (split t D)) 16 0 13 (omega arith) h₂ in omega (arith, h₃)) x in
         subst (Least (Strange top bottom D)) (placed 13 e q) (least-found (length D) (strange top bottom D) (Strange top bottom D) strange-words strange-inside s)
 
     pub pin-least : refused top bottom w t D ≡ 14 → p ≡ place top bottom w t D (refused top bottom w t D) → Least (PinWrong top bottom w t D) p
     unfolding place entriesRefused
     pin-least e q =
         let (ok, size, x) = reached 14 (omega arith) e in
-        let (d, x₁) = past (some (length D) (strange top bottom D)) 13 _ 14 (omega arith) x in
+        let (d, x₁) = pick-past (some (length D) (strange top bottom D)) 13 _ 14 (omega arith) x in
         let s = here (some (length D) (mispinned top bottom t D)) 14 _ (λ h.
-        let (b, h₂) = past (some (length D) (leavesLast w t D)) 15 _ 14 (omega arith) h in
-        let (c, h₃) = past (some 257 (split t D)) 16 0 14 (omega arith) h₂ in omega (arith, h₃)) x₁ in
+        let (b, h₂) = pick-past (some (length D) (leavesLast w t D)) 15 _ 14 (omega arith) h in
+        let (c, h₃) = pick-past (some 257 (split t D)) 16 0 14 (omega arith) h₂ in omega (arith, h₃)) x₁ in
         subst (Least (PinWrong top bottom w t D)) (placed 14 e q)
         (least-found (length D) (mispinned top bottom t D) (PinWrong top bottom w t D) (λ p. pin-wrong-at top bottom w t D p size) (pin-inside size) s)
 
@@ -149,9 +145,9 @@ module _ (top bottom : List ℕ) (w t : ℕ) (D : List ℕ) where
     unfolding place entriesRefused
     last-least e q =
         let (ok, size, x) = reached 15 (omega arith) e in
-        let (d, x₁) = past (some (length D) (strange top bottom D)) 13 _ 15 (omega arith) x in
-        let (f, x₂) = past (some (length D) (mispinned top bottom t D)) 14 _ 15 (omega arith) x₁ in
-        let s = here (some (length D) (leavesLast w t D)) 15 _ (λ h. let (c, h₃) = past (some 257 (split t D)) 16 0 15 (omega arith) h in omega (arith, h₃)) x₂ in
+        let (d, x₁) = pick-past (some (length D) (strange top bottom D)) 13 _ 15 (omega arith) x in
+        let (f, x₂) = pick-past (some (length D) (mispinned top bottom t D)) 14 _ 15 (omega arith) x₁ in
+        let s = here (some (length D) (leavesLast w t D)) 15 _ (λ h. let (c, h₃) = pick-past (some 257 (split t D)) 16 0 15 (omega arith) h in omega (arith, h₃)) x₂ in
         subst (Least (LeavesLast w t D)) (placed 15 e q)
         (least-found (length D) (leavesLast w t D) (LeavesLast w t D) (λ p l. leaves-last-at w t D p) (last-inside size) s)
 
@@ -159,9 +155,9 @@ module _ (top bottom : List ℕ) (w t : ℕ) (D : List ℕ) where
     unfolding place entriesRefused
     split-least e q =
         let (ok, size, x) = reached 16 (omega arith) e in
-        let (d, x₁) = past (some (length D) (strange top bottom D)) 13 _ 16 (omega arith) x in
-        let (f, x₂) = past (some (length D) (mispinned top bottom t D)) 14 _ 16 (omega arith) x₁ in
-        let (g, x₃) = past (some (length D) (leavesLast w t D)) 15 _ 16 (omega arith) x₂ in
+        let (d, x₁) = pick-past (some (length D) (strange top bottom D)) 13 _ 16 (omega arith) x in
+        let (f, x₂) = pick-past (some (length D) (mispinned top bottom t D)) 14 _ 16 (omega arith) x₁ in
+        let (g, x₃) = pick-past (some (length D) (leavesLast w t D)) 15 _ 16 (omega arith) x₂ in
         let s = here (some 257 (split t D)) 16 0 (λ h. omega (arith, h)) x₃ in
         subst (Least (Split t D)) (placed 16 e q)
         (least-found 257 (split t D) (Split t D) (λ N l. split-at t D N) (split-inside ok (none-strange d)) s)

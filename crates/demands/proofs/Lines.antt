@@ -9,7 +9,8 @@ use lib.Dec.{eqb, ltb}
 use lib.ListN.{length}
 use Rattle.grid.specs.Channel.{pick, bit, sum, count, over, pins, tracks, rowsRefused}
 use Rattle.grid.specs.Refusals.{firstRefusal}
-use Rattle.grid.proofs.Tests.{ltb-true, ltb-false, eqb-true, eqb-false, not-true, not-false, or-false}
+use Rattle.grid.proofs.Tests.{ltb-true, ltb-false, eqb-true, eqb-false, not-true, not-false, or-false, not-both}
+use Rattle.grid.proofs.Answers.{no-later}
 use Rattle.grid.proofs.Rows.{rows-fit, rows-more}
 use Rattle.record.specs.Record.{word, wrongLength, wrongKind, wrongBody, recordRefused}
 use Rattle.router.specs.Answers.{sliceLength}
@@ -38,10 +39,7 @@ equal x y e n = n (eqb-true x y (not-false (eqb x y) e))
 -- a number over 256
 over-some : (l : List ℕ) → over l ≡ true → Over l
 unfolding over
-over-some [] e = absurd (let z : false ≡ true = e in no z)
-  where
-    no : false ≡ true → ⊥
-    no z = subst (λ (b : Bool). pick b ⊥ (Unit {0})) z tt
+over-some [] e = absurd (not-both e refl)
 over-some (x ∷ xs) e = go (ltb 256 x) refl (over-some xs) e
   where
     go : (b : Bool) → ltb 256 x ≡ b → (over xs ≡ true → Over xs) → (b || over xs) ≡ true → Over (x ∷ xs)
@@ -67,11 +65,6 @@ count-some p (suc k) n = go (p (suc k)) refl (count-some p k)
 pub none-numbered : Numbered end
 unfolding Numbered
 none-numbered = tt
-
--- the number of a place after which none comes
-pub no-later : (k : ℕ) → firstRefusal k 0 ≡ k
-no-later zero = refl
-no-later (suc k) = refl
 
 -- ROWS, then the places after them
 module _ (top bottom : List ℕ) where

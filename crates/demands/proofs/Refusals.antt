@@ -6,7 +6,7 @@ use mathlib.Core.List.{List}
 use native.Mathlib.Omega.{arith}
 use lib.ListN.{length}
 use Rattle.grid.specs.Answers as counting
-use Rattle.grid.proofs.Answers.{check-number, check-figures, density-number, density-figure, accepted-old}
+use Rattle.grid.proofs.Answers.{check-number, check-figures, density-number, density-figure, accepted-old, no-later}
 use Rattle.router.specs.Answers as routing
 use Rattle.router.proofs.Answered.{need-number, need-entries, answer-number, answer-figures}
 use Rattle.checker.specs.Check as checking
@@ -20,7 +20,7 @@ use Rattle.listing.specs.Listing as listing
 use Rattle.listing.proofs.Records.{listed-number, listed-length}
 use Rattle.demands.specs.Table.{First, end, ofRecord, ofRows, ofLayout, ofNetTable, ofDrawing}
 use Rattle.demands.specs.Refusals.{Refuses, RefusesRecord, Zeros, ZerosRecord, Places}
-use Rattle.demands.proofs.Lines.{no-later, rows-lines, rows-first, layout-first, table-first, record-lines}
+use Rattle.demands.proofs.Lines.{rows-lines, rows-first, layout-first, table-first, record-lines}
 use Rattle.demands.proofs.Drawings.{drawing-lines, strange-least, pin-least, last-least, split-least}
 
 -- THE NUMBERS

@@ -10,15 +10,19 @@ use lib.Seq.{length-take-le}
 use Rattle.grid.specs.declared.Part.{Part}
 use Rattle.grid.specs.Grid.{columnOf}
 use Rattle.grid.specs.View.{columnPart, columnView, partOf, noPart}
+use Rattle.grid.specs.Channel.{pins}
+use Rattle.grid.specs.Nets.{firstColumn, lastColumn, table}
 use Rattle.grid.specs.Answers as counting
 use Rattle.grid.proofs.Answers.{accepted-new, accepted-old}
 use Rattle.grid.proofs.Views.{part-end, too-wide, too-tall, wrong-size, no-column, past-last, found}
 use Rattle.router.proofs.Answered.{answer-number, written-refused, written-drawn}
 use Rattle.report.specs.Report as reporting
 use Rattle.report.proofs.Answers as report
+use Rattle.report.proofs.Contents.{record-at, record-kept, unused}
 use Rattle.record.specs.Record as reading
 use Rattle.record.specs.Record.{topRow, bottomRow, laid}
 use Rattle.listing.specs.Listing as listing
+use Rattle.listing.proofs.Records.{listed-number, output-text, output-line}
 use Rattle.demands.specs.Slices.{LeavesSlices, LeavesRecord, NoColumn, Shows}
 
 -- for all rows
@@ -28,10 +32,17 @@ leaves top bottom =
       routeRefused = λ most old n. written-refused top bottom most old (λ z. n (answer-number top bottom most (length old) ∙ z));
       reportRefused = λ old n.
           sym (report.table-of-refusal top bottom old (reporting.numberOf (reporting.reported top bottom old)) (report.number top bottom old) n);
-      factsRefused = λ most new old n. accepted-old (counting.numberOf (counting.rowCheck top bottom most)) new old n;
+      factsRefused = λ most old n.
+          let k = counting.numberOf (counting.rowCheck top bottom most) in
+          (accepted-old k (table (firstColumn top bottom)) old n, accepted-old k (table (lastColumn top bottom)) old n, accepted-old k (table (pins top bottom)) old n);
       routeDrawn = λ most old e. written-drawn top bottom most old (sym (answer-number top bottom most (length old)) ∙ e);
       reportFilled = λ old e. sym (report.table-filled top bottom old (reporting.numberOf (reporting.reported top bottom old)) (report.number top bottom old) e);
-      factsFilled = λ most new old e. accepted-new (counting.numberOf (counting.rowCheck top bottom most)) new old e;
+      factsFilled = λ most old e.
+          let k = counting.numberOf (counting.rowCheck top bottom most) in
+          (accepted-new k (table (firstColumn top bottom)) old e, accepted-new k (table (lastColumn top bottom)) old e, accepted-new k (table (pins top bottom)) old e);
+      reportRecord = λ old d e. record-at top bottom old d (sym (report.number top bottom old) ∙ e);
+      reportUnused = unused top bottom;
+      reportKept = record-kept top bottom;
     }
 
 -- for all bytes
@@ -44,6 +55,8 @@ leaves-record s =
       rowsRead = λ old e. (accepted-new k (laid (topRow s) old) old e, accepted-new k (laid (bottomRow s) old) old e);
       textRefused = λ old n. accepted-old j (laid (listing.textOf s) old) old n;
       textListed = λ old e. accepted-new j (laid (listing.textOf s) old) old e;
+      outputListed = λ e. sym (output-text s j (listed-number s) e);
+      outputRefused = λ n. sym (output-line s j (listed-number s) n);
     }
 
 -- for all layouts

@@ -16,7 +16,7 @@ use Rattle.demands.proofs.Tracks.{rows-accepted}
 pub draws-solutions : (top bottom : List ℕ) → DrawsSolutions top bottom
 draws-solutions top bottom =
     record {
-      drawn = λ most old e.
+      inFront = λ most old e.
           let z = sym (answer-number top bottom most (length old)) ∙ e in
           rw (written-drawn top bottom most old z)
           (take-at

@@ -1,6 +1,6 @@
 -- The third demand is met, whole. Assumes nothing.
-use Prim.Native.Nat.{ℕ, zero, suc, _≤_}
-use mathlib.Core.Path.{_≡_, refl, sym, _∙_, ap, subst}
+use Prim.Native.Nat.{ℕ, suc, _≤_, min}
+use mathlib.Core.Path.{_≡_, refl, sym, _∙_, ap}
 use mathlib.Core.Logic.{_≢_, _↔_, ⊎-elim}
 use mathlib.Core.Bool.{Bool}
 use mathlib.Core.List.{List}
@@ -10,12 +10,11 @@ use lib.ListN.{length}
 use Rattle.grid.specs.declared.Family.{Family}
 use Rattle.grid.specs.declared.Family.the-variants.{TwoPin, ManyPin}
 use Rattle.grid.specs.Channel.{pick, bit, count, pins, density, pinsWithin, family, tracks, rowsRefused}
-use Rattle.grid.specs.Refusals.{firstRefusal}
 use Rattle.grid.specs.Answers as counting
 use Rattle.grid.proofs.Tests.{eq-eqb, le-ltb}
 use Rattle.grid.proofs.Counting.{sum-zero}
 use Rattle.grid.proofs.Rows.{RowsFit, rows-fit, rows-more, two-fit, two-density, many-density}
-use Rattle.grid.proofs.Answers.{check-number, check-figures, density-figure, accepted-new}
+use Rattle.grid.proofs.Answers.{check-number, check-figures, density-figure, accepted-new, first-past}
 use Rattle.grid.proofs.Drawings.Bound.{density-le}
 use Rattle.router.specs.declared.Figures.{Figures}
 use Rattle.router.specs.Answers as routing
@@ -25,7 +24,7 @@ use Rattle.router.proofs.Answered.{need-entries, answer-number, answer-figures,
 use Rattle.record.specs.Record.{topRow, bottomRow, recordRefused}
 use Rattle.listing.specs.Listing as listing
 use Rattle.listing.proofs.Records.{listed-number}
-use Rattle.demands.specs.Table.{LetsThrough, First, end, ofRecord, ofRows, ofLayout}
+use Rattle.demands.specs.Table.{LetsThrough, end, ofRecord, ofRows, ofLayout}
 use Rattle.demands.specs.Tracks.{PairsOnly, ChannelDrawn, Routes, ListsRecord, ThirdDemand}
 use Rattle.demands.proofs.Table.{zero-just-if-let}
 use Rattle.demands.proofs.Lines.{rows-first, rows-numbered, layout-numbered, record-numbered, none-numbered}
@@ -71,7 +70,7 @@ module _ (top bottom : List ℕ) (ok : rowsRefused top bottom 256 ≡ 0) where
         pairs = λ p. two-density top bottom (pairs-two top bottom p);
         fewest = λ p w t D s. omega (arith, two-density top bottom (pairs-two top bottom p), density-le top bottom w t D (fit .same) s);
         more = λ v n p. many-density top bottom (more-many top bottom fit v n p);
-        wide = width-least top bottom ok;
+        covers = width-least top bottom ok;
         addedPairs = λ p. added-two top bottom fit (pairs-two top bottom p);
         addedMore = λ v n p. added-many top bottom fit (more-many top bottom fit v n p);
         rowsDensity = λ most e.
@@ -87,19 +86,18 @@ rows-accepted top bottom =
     zero-just-if-let (ofRows top bottom 256 end) (rows-numbered top bottom 256 end none-numbered) (rowsRefused top bottom 256) (rows-first top bottom 256 (omega arith))
 
 -- ROUTING
-routes : (top bottom : List ℕ) (most : ℕ) (old : List ℕ) → most ≤ 256 → Routes top bottom most old
+routes : (top bottom : List ℕ) (most : ℕ) (old : List ℕ) → Routes top bottom most old
 unfolding routing.figures
-routes top bottom most old m =
+routes top bottom most old =
     let lent = length old in
     let n = answer-number top bottom most lent in
     let figures : routing.numberOf (routing.answer top bottom most lent) ≡ 0 → routing.figuresOf (routing.answer top bottom most lent) ≡ routing.figures top bottom =
     λ e. answer-figures top bottom most lent ∙ accepted-new (routing.refused top bottom most lent) _ routing.noFigures (sym n ∙ e) in
     record {
       exactly =
-          zero-just-if-let (ofRows top bottom most (ofLayout top bottom lent)) (rows-numbered top bottom most (ofLayout top bottom lent) (layout-numbered top bottom lent))
-          (routing.numberOf (routing.answer top bottom most lent))
-          (subst (λ (k : ℕ). First (ofRows top bottom k (ofLayout top bottom lent)) (routing.numberOf (routing.answer top bottom most lent))) (omega arith)
-          (route-first top bottom most lent));
+          zero-just-if-let (ofRows top bottom (min most 256) (ofLayout top bottom lent))
+          (rows-numbered top bottom (min most 256) (ofLayout top bottom lent) (layout-numbered top bottom lent))
+          (routing.numberOf (routing.answer top bottom most lent)) (route-first top bottom most lent);
       reports = λ e. reported (figures e);
       draws = λ e. written-drawn top bottom most old (sym n ∙ e);
       keeps = λ k. written-refused top bottom most old (λ z. k (n ∙ z));
@@ -113,11 +111,7 @@ routes top bottom most old m =
 -- a listing whose number is 0 has rows that are accepted
 rows-of : (s : List ℕ) → listing.numberOf (listing.listed s) ≡ 0 → rowsRefused (topRow s) (bottomRow s) 256 ≡ 0
 unfolding listing.refused
-rows-of s e = rows-more (topRow s) (bottomRow s) 64 256 (omega arith) (go (recordRefused s) (sym (listed-number s) ∙ e))
-  where
-    go : (k : ℕ) → firstRefusal k (rowsRefused (topRow s) (bottomRow s) 64) ≡ 0 → rowsRefused (topRow s) (bottomRow s) 64 ≡ 0
-    go zero z = z
-    go (suc k) z = absurd (omega (arith, z))
+rows-of s e = rows-more (topRow s) (bottomRow s) 64 256 (omega arith) (first-past (recordRefused s) _ (sym (listed-number s) ∙ e) .1)
 
 lists : (s : List ℕ) → ListsRecord s
 unfolding listing.textOf
@@ -135,7 +129,7 @@ lists s =
 pub third-demand : ThirdDemand
 third-demand =
     record {
-      drawn = λ top bottom l. drawn top bottom (rows-accepted top bottom .1 l);
+      channels = λ top bottom l. drawn top bottom (rows-accepted top bottom .1 l);
       routes = routes;
       lists = lists;
     }

@@ -1,10 +1,12 @@
 -- The first demand, of the lent slices: after a refused call each is as it was; after an accepted one the drawing stands in the first entries and the old
 -- contents behind it. Each call's promise gives the final contents of what it is lent by the definitions named here.
-use Prim.Native.Nat.{ℕ, _+_, _*_, _-_, _<_}
+use Prim.Native.Nat.{ℕ, _+_, _*_, _-_, _≤_, _<_}
 use mathlib.Core.Path.{_≡_}
 use mathlib.Core.Logic.{_≢_, _⊎_}
 use mathlib.Core.List.{List, [], _++_}
-use lib.ListN.{length, drop}
+use lib.ListN.{length, drop, getD}
+use Rattle.grid.specs.Channel.{pins}
+use Rattle.grid.specs.Nets.{firstColumn, lastColumn, table}
 use Rattle.grid.specs.Refusals.{ifAccepted}
 use Rattle.grid.specs.Answers as counting
 use Rattle.grid.specs.Grid.{columnOf}
@@ -16,21 +18,35 @@ use Rattle.report.specs.Report as reporting
 use Rattle.record.specs.Record as reading
 use Rattle.record.specs.Record.{topRow, bottomRow, laid}
 use Rattle.listing.specs.Listing as listing
+use Rattle.listing.specs.Text.{refusal}
 
 -- WHAT THE CALLS ON ROWS LEAVE
+-- of a table of the net facts that held `old`: that of the figure f of each net, or the old contents
+abbrev pub factAfter : (top bottom : List ℕ) (f : ℕ → ℕ) (most : ℕ) (old : List ℕ) → List ℕ
+factAfter top bottom f most old = ifAccepted (counting.numberOf (counting.rowCheck top bottom most)) (table f) old
+
 pub record LeavesSlices (top bottom : List ℕ) : Type 0 where
-  -- "A refused call writes to no lent slice or table": routing, the net report, and the net facts, whose three tables are `ifAccepted` by their number
+  -- "A refused call writes to no lent slice or table": routing, the net report, and the three tables of the net facts
   pub routeRefused : (most : ℕ) (old : List ℕ) → routing.numberOf (routing.answer top bottom most (length old)) ≢ 0 → routing.written top bottom most old ≡ old
   pub reportRefused : (old : List NetRecord) → reporting.numberOf (reporting.reported top bottom old) ≢ 0 → reporting.tableAfter top bottom old ≡ old
-  pub factsRefused : (most : ℕ) (new old : List ℕ) → counting.numberOf (counting.rowCheck top bottom most) ≢ 0
-      → ifAccepted (counting.numberOf (counting.rowCheck top bottom most)) new old ≡ old
+  pub factsRefused : (most : ℕ) (old : List ℕ) → counting.numberOf (counting.rowCheck top bottom most) ≢ 0
+      → (factAfter top bottom (firstColumn top bottom) most old ≡ old)
+      × (factAfter top bottom (lastColumn top bottom) most old ≡ old)
+      × (factAfter top bottom (pins top bottom) most old ≡ old)
   -- an accepted one writes the drawing, the 256 records, or the tables, and keeps what stands behind
   pub routeDrawn : (most : ℕ) (old : List ℕ) → routing.numberOf (routing.answer top bottom most (length old)) ≡ 0
       → routing.written top bottom most old ≡ layout top bottom ++ drop (length (layout top bottom)) old
   pub reportFilled : (old : List NetRecord) → reporting.numberOf (reporting.reported top bottom old) ≡ 0
       → reporting.tableAfter top bottom old ≡ reporting.records top bottom ++ drop 256 old
-  pub factsFilled : (most : ℕ) (new old : List ℕ) → counting.numberOf (counting.rowCheck top bottom most) ≡ 0
-      → ifAccepted (counting.numberOf (counting.rowCheck top bottom most)) new old ≡ new
+  pub factsFilled : (most : ℕ) (old : List ℕ) → counting.numberOf (counting.rowCheck top bottom most) ≡ 0
+      → (factAfter top bottom (firstColumn top bottom) most old ≡ table (firstColumn top bottom))
+      × (factAfter top bottom (lastColumn top bottom) most old ≡ table (lastColumn top bottom))
+      × (factAfter top bottom (pins top bottom) most old ≡ table (pins top bottom))
+  -- the net report has "one per number 1 to 256", "zeros for an unused number"; "Records after the 256th keep their contents"
+  pub reportRecord : (old : List NetRecord) (d : NetRecord) → reporting.numberOf (reporting.reported top bottom old) ≡ 0
+      → (k : ℕ) → k < 256 → getD (reporting.tableAfter top bottom old) k d ≡ reporting.recordOf top bottom (k + 1)
+  pub reportUnused : (v : ℕ) → v ≢ 0 → pins top bottom v ≡ 0 → reporting.recordOf top bottom v ≡ record { first = 0; last = 0; pins = 0 }
+  pub reportKept : (old : List NetRecord) (d : NetRecord) (k : ℕ) → 256 ≤ k → getD (reporting.tableAfter top bottom old) k d ≡ getD old k d
 
 -- WHAT THE CALLS ON A RECORD LEAVE, of rows and a text that held `old`
 pub record LeavesRecord (s : List ℕ) : Type 0 where
@@ -44,6 +60,9 @@ pub record LeavesRecord (s : List ℕ) : Type 0 where
       → ifAccepted (listing.numberOf (listing.listed s)) (laid (listing.textOf s) old) old ≡ old
   pub textListed : (old : List ℕ) → listing.numberOf (listing.listed s) ≡ 0
       → ifAccepted (listing.numberOf (listing.listed s)) (laid (listing.textOf s) old) old ≡ listing.textOf s ++ drop (length (listing.textOf s)) old
+  -- what `knee` writes: the listing; "On refusal it writes one line, as `refused 7`"
+  pub outputListed : listing.numberOf (listing.listed s) ≡ 0 → listing.output s ≡ listing.textOf s
+  pub outputRefused : listing.numberOf (listing.listed s) ≢ 0 → listing.output s ≡ refusal (listing.numberOf (listing.listed s))
 
 -- ONE COLUMN'S ENTRIES. "an empty part if w or t is over 511, the length is not w × (2t + 1), or the column is not 1 to w"
 abbrev pub NoColumn : (D : List ℕ) (w t c : ℕ) → Type 0

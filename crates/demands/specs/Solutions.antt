@@ -14,7 +14,7 @@ use Rattle.demands.specs.Table.{LetsThrough, end, ofRows}
 
 pub record DrawsSolutions (top bottom : List ℕ) : Type 0 where
   -- what a routing call that is let through leaves in the first w × (2t + 1) entries of its slice is the sweep's layout
-  pub drawn : (most : ℕ) (old : List ℕ) → routing.numberOf (routing.answer top bottom most (length old)) ≡ 0
+  pub inFront : (most : ℕ) (old : List ℕ) → routing.numberOf (routing.answer top bottom most (length old)) ≡ 0
       → take (width top bottom * (2 * tracks top bottom + 1)) (routing.written top bottom most old) ≡ layout top bottom
   -- and a solution
   pub solution : (most : ℕ) (old : List ℕ) → routing.numberOf (routing.answer top bottom most (length old)) ≡ 0

@@ -1,5 +1,5 @@
 -- The third demand, whole: "a single claim about the whole list of columns and about all solutions of the channel".
-use Prim.Native.Nat.{ℕ, _+_, _*_, _-_, _/_, _≤_}
+use Prim.Native.Nat.{ℕ, _+_, _*_, _-_, _/_, _≤_, min}
 use mathlib.Core.Path.{_≡_}
 use mathlib.Core.Logic.{_≢_, _⊎_, _↔_}
 use mathlib.Core.List.{List, _++_}
@@ -28,7 +28,7 @@ pub record ChannelDrawn (top bottom : List ℕ) : Type 0 where
   -- "else 2d - 1": with a net of three or more pins
   pub more : (v : ℕ) → v ≢ 0 → 3 ≤ pins top bottom v → tracks top bottom ≡ 2 * density top bottom - 1
   -- n columns, and added ones: "At most d/2, rounded down", with two-pin nets only; else "at most d - 1"
-  pub wide : length top ≤ width top bottom
+  pub covers : length top ≤ width top bottom
   pub addedPairs : PairsOnly top bottom → width top bottom ≤ length top + density top bottom / 2
   pub addedMore : (v : ℕ) → v ≢ 0 → 3 ≤ pins top bottom v → width top bottom ≤ length top + (density top bottom - 1)
   -- the densities reported are the d of the definition: the row check's and the density call's
@@ -38,9 +38,9 @@ pub record ChannelDrawn (top bottom : List ℕ) : Type 0 where
   pub stated : routing.entriesOf (routing.need top bottom) ≡ (length top + tracks top bottom / 2) * (2 * tracks top bottom + 1)
   pub enough : LetsThrough (ofLayout top bottom (routing.entriesOf (routing.need top bottom)))
 
--- ROUTING, with a limit of columns `most` up to 256 (256; 64 in `knee`) and a slice that held `old`: it draws exactly when the table lets the call through
+-- ROUTING, with a limit of columns `most` (256; 64 in `knee`; one over 256 stands for 256) and a slice that held `old`: it draws exactly when the table lets the call through
 pub record Routes (top bottom : List ℕ) (most : ℕ) (old : List ℕ) : Type 0 where
-  pub exactly : (routing.numberOf (routing.answer top bottom most (length old)) ≡ 0) ↔ LetsThrough (ofRows top bottom most (ofLayout top bottom (length old)))
+  pub exactly : (routing.numberOf (routing.answer top bottom most (length old)) ≡ 0) ↔ LetsThrough (ofRows top bottom (min most 256) (ofLayout top bottom (length old)))
   -- then it reports the density, tracks and width of the channel, and leaves the drawing in front of the old contents
   pub reports : routing.numberOf (routing.answer top bottom most (length old)) ≡ 0
       → (routing.figuresOf (routing.answer top bottom most (length old)) .density ≡ density top bottom)
@@ -59,6 +59,6 @@ pub record ListsRecord (s : List ℕ) : Type 0 where
 
 -- THE THIRD DEMAND
 pub record ThirdDemand : Type 0 where
-  pub drawn : (top bottom : List ℕ) → LetsThrough (ofRows top bottom 256 end) → ChannelDrawn top bottom
-  pub routes : (top bottom : List ℕ) (most : ℕ) (old : List ℕ) → most ≤ 256 → Routes top bottom most old
+  pub channels : (top bottom : List ℕ) → LetsThrough (ofRows top bottom 256 end) → ChannelDrawn top bottom
+  pub routes : (top bottom : List ℕ) (most : ℕ) (old : List ℕ) → Routes top bottom most old
   pub lists : (s : List ℕ) → ListsRecord s

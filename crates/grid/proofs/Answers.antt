@@ -15,11 +15,23 @@ use Rattle.grid.specs.declared.Size.{Size}
 use Rattle.grid.specs.declared.DensityCount.{DensityCount}
 use Rattle.grid.specs.declared.DensityCount.the-variants as dc
 use Rattle.grid.specs.Channel.{pick, over, count, pins, pinsWithin, family, density, rowsRefused}
-use Rattle.grid.specs.Refusals.{ifAccepted}
+use Rattle.grid.specs.Refusals.{firstRefusal, ifAccepted}
 use Rattle.grid.specs.Answers.{numberOf, noSize, sizeOf, checkOf, countNumber, countDensity, countOf, refusedWithin, acceptedSize, rowCheck, densityCount}
 use Rattle.grid.specs.Working.{someTo}
 use Rattle.grid.proofs.Tests.{eq-eqb, ne-eqb, lt-ltb, le-ltb}
 use Rattle.grid.proofs.Rows.{rows-more}
+
+-- THE FIRST NUMBER of a place and of the places after it
+
+-- it is 0 only if both are
+pub first-past : (k m : ℕ) → firstRefusal k m ≡ 0 → (k ≡ 0) × (m ≡ 0)
+first-past zero m e = (refl, e)
+first-past (suc k) m e = absurd (omega arith)
+
+-- and that of the place where none comes after it
+pub no-later : (k : ℕ) → firstRefusal k 0 ≡ k
+no-later zero = refl
+no-later (suc k) = refl
 
 -- THE CASES
 

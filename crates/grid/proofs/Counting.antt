@@ -65,6 +65,14 @@ at-below l x N n e = go (decLt x (length l))
     go (yes p) = p
     go (no p) = absurd (n (sym e ∙ List·getD-eq-default l 0 (omega arith)))
 
+-- a list that counts no number over 256 holds none
+pub small-in : (l : List ℕ) → ((v : ℕ) → 256 < v → times v l ≡ 0) → (j : ℕ) → getD l j 0 ≤ 256
+small-in l h j = go (decLt 256 (getD l j 0))
+  where
+    go : Dec (256 < getD l j 0) → getD l j 0 ≤ 256
+    go (no q) = omega arith
+    go (yes q) = absurd (omega (arith, h (getD l j 0) q, holds-times l j (getD l j 0) (at-below l j (getD l j 0) (λ z. omega arith) refl) refl))
+
 -- zeros have 0 at every place, and past their end
 pub zeros : (t j : ℕ) → getD {A = ℕ} (replicate t 0) j 0 ≡ 0
 zeros zero j = refl

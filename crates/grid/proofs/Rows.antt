@@ -52,10 +52,10 @@ every-net top bottom q small z e v p = go (decLt 256 v)
 pub rows-fit : (top bottom : List ℕ) → rowsRefused top bottom 256 ≡ 0 → RowsFit top bottom
 unfolding rowsRefused
 rows-fit top bottom e =
-    let (a, e₁) = pick-past (not (eqb (length top) (length bottom))) 4 _ (omega arith) e in
-    let (b, e₂) = pick-past (ltb 256 (length top)) 5 _ (omega arith) e₁ in
-    let (c, e₃) = pick-past (over top || over bottom) 6 _ (omega arith) e₂ in
-    let (d, e₄) = pick-past (not (eqb (count (λ v. eqb (pins top bottom v) 1) 256) 0)) 7 0 (omega arith) e₃ in
+    let (a, e₁) = pick-past (not (eqb (length top) (length bottom))) 4 _ 0 (omega arith) e in
+    let (b, e₂) = pick-past (ltb 256 (length top)) 5 _ 0 (omega arith) e₁ in
+    let (c, e₃) = pick-past (over top || over bottom) 6 _ 0 (omega arith) e₂ in
+    let (d, e₄) = pick-past (not (eqb (count (λ v. eqb (pins top bottom v) 1) 256) 0)) 7 0 0 (omega arith) e₃ in
     let small = pins-over top bottom c in
     let ones = eqb-true (count (λ v. eqb (pins top bottom v) 1) 256) 0 (not-false _ d) in
     record {
@@ -68,16 +68,16 @@ rows-fit top bottom e =
 pub rows-short : (top bottom : List ℕ) (most : ℕ) → rowsRefused top bottom most ≡ 0 → length top ≤ most
 unfolding rowsRefused
 rows-short top bottom most e =
-    let (a, e₁) = pick-past (not (eqb (length top) (length bottom))) 4 _ (omega arith) e in
-    let (b, e₂) = pick-past (ltb most (length top)) 5 _ (omega arith) e₁ in
+    let (a, e₁) = pick-past (not (eqb (length top) (length bottom))) 4 _ 0 (omega arith) e in
+    let (b, e₂) = pick-past (ltb most (length top)) 5 _ 0 (omega arith) e₁ in
     ltb-false most (length top) b
 
 -- rows that a smaller limit lets through, a larger one does
 pub rows-more : (top bottom : List ℕ) (few most : ℕ) → few ≤ most → rowsRefused top bottom few ≡ 0 → rowsRefused top bottom most ≡ 0
 unfolding rowsRefused
 rows-more top bottom few most p e =
-    let (a, e₁) = pick-past (not (eqb (length top) (length bottom))) 4 _ (omega arith) e in
-    let (b, e₂) = pick-past (ltb few (length top)) 5 _ (omega arith) e₁ in
+    let (a, e₁) = pick-past (not (eqb (length top) (length bottom))) 4 _ 0 (omega arith) e in
+    let (b, e₂) = pick-past (ltb few (length top)) 5 _ 0 (omega arith) e₁ in
     rw (a, le-ltb most (length top) (omega (arith, ltb-false few (length top) b))) e₂
 
 -- FAMILIES

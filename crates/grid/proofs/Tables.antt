@@ -10,7 +10,7 @@ use lib.ListN.{length, getD, set, length-set}
 use lib.Seq.{getD-set-same, getD-set-other, ext-getD}
 use Rattle.grid.specs.Channel.{pick, bit, left, pins}
 use Rattle.grid.specs.Nets.{pinAt, firstTo, lastTo, firstColumn, lastColumn, from, table, zeroTable}
-use Rattle.grid.specs.Working.{Figures, someTo}
+use Rattle.grid.specs.Working.{ByNet, someTo}
 use Rattle.grid.proofs.Tests.{eq-eqb, ne-eqb, Same, same, diff, sameBy, bit-most}
 use Rattle.grid.proofs.Counting.{zeros}
 use Rattle.grid.proofs.Sums.{some-same}
@@ -46,7 +46,7 @@ unfolding table
 table-none f = refl
 
 -- figures at the nets' numbers are a table once 0 stands at 0
-pub cleared : (f : ℕ → ℕ) (l : List ℕ) → Figures f l → set l 0 0 ≡ table f
+pub cleared : (f : ℕ → ℕ) (l : List ℕ) → ByNet f l → set l 0 0 ≡ table f
 cleared f l h = ext-getD 0 (set l 0 0) (table f) (simp length-set (h .size ∙ sym (table-length f))) at
   where
     at : (i : ℕ) → i < length (set l 0 0) → getD (set l 0 0) i 0 ≡ getD (table f) i 0
@@ -74,8 +74,8 @@ getD-set l i a v h = go (eqb i v) (sameBy i v)
     go true (same e) = subst (λ (z : ℕ). getD (set l i a) z 0 ≡ a) e (getD-set-same l i a 0 h)
     go false (diff n) = getD-set-other l i v a 0 (λ e. n (sym e))
 
--- one pin more of a net
-tallied-at : (l : List ℕ) (net v : ℕ) → net < length l → getD (set l net (getD l net 0 + 1)) v 0 ≡ getD l v 0 + bit (eqb net v)
+-- one more for a net
+pub tallied-at : (l : List ℕ) (net v : ℕ) → net < length l → getD (set l net (getD l net 0 + 1)) v 0 ≡ getD l v 0 + bit (eqb net v)
 tallied-at l net v h = getD-set l net (getD l net 0 + 1) v h ∙ go (eqb net v) (sameBy net v)
   where
     go : (q : Bool) → Same net v q → pick q (getD l net 0 + 1) (getD l v 0) ≡ getD l v 0 + bit q
@@ -96,8 +96,8 @@ two-pins l p q c v hp hq =
 
 -- the tables once the columns 1 to i are noted
 pub record Noted (top bottom : List ℕ) (i : ℕ) (last counts : List ℕ) : Type 0 where
-  pub lasts : Figures (λ v. lastTo top bottom v i) last
-  pub counted : Figures (left top bottom i) counts
+  pub lasts : ByNet (λ v. lastTo top bottom v i) last
+  pub counted : ByNet (left top bottom i) counts
   pub few : (v : ℕ) → getD counts v 0 ≤ 2 * i
 
 -- no column is noted in zeros
@@ -119,7 +119,7 @@ PinRoom last counts net = (net < length last) × (net < length counts) × (getD 
 
 module _ (top bottom : List ℕ) (i : ℕ) (last counts : List ℕ) (n : Noted top bottom i last counts) where
   -- all columns are noted
-  pub noted-all : i ≡ length top → length top ≡ length bottom → Figures (lastColumn top bottom) last × Figures (pins top bottom) counts
+  pub noted-all : i ≡ length top → length top ≡ length bottom → ByNet (lastColumn top bottom) last × ByNet (pins top bottom) counts
   unfolding lastColumn
   noted-all e s = (
     record { size = n .lasts .size; at = λ v a b. n .lasts .at v a b ∙ ap (lastTo top bottom v) e },
@@ -207,7 +207,7 @@ first-back false false f x i (diff n) = sym (ap (λ (w : Bool). pick w x f) (ne-
 
 module _ (top bottom : List ℕ) (i : ℕ) (first : List ℕ) (n : NotedAfter top bottom i first) where
   -- all columns are noted
-  pub noted-after-all : i ≡ 0 → Figures (firstColumn top bottom) first
+  pub noted-after-all : i ≡ 0 → ByNet (firstColumn top bottom) first
   unfolding firstTo
   noted-after-all e = record { size = n .size; at = λ v a b. ap (λ (x : ℕ). pick (eqb (firstTo top bottom v x) 0) (getD first v 0) (firstTo top bottom v x)) (sym e) ∙ n .firsts v a b }
 

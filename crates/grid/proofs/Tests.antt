@@ -1,7 +1,7 @@
 -- Boolean tests as facts about numbers. Those of a single test stand in the kit's library and are passed on: `ltb-true` gives the fact of a test's value,
 -- `lt-ltb` the value of a fact, and so for the others. Assumes nothing.
 use Prim.Native.Nat.{ℕ, _≤_, _<_}
-use mathlib.Core.Path.{_≡_, refl, sym, subst}
+use mathlib.Core.Path.{_≡_, refl, sym, subst, _∙_}
 use mathlib.Core.Logic.{_⊎_, inl, inr, _≢_}
 use mathlib.Core.Bool.{Bool, true, false, _&&_, _||_}
 use native.Mathlib.Omega.{arith}
@@ -9,6 +9,10 @@ use lib.Dec.{T, eqb, ltb}
 use Rattle.grid.specs.Channel.{pick, bit}
 pub use borrow.Author.Tests.{ltb-true, ltb-false, leb-true, leb-false, eqb-true, eqb-false, not-true, not-false}
 pub use borrow.Author.Tests.{lt-ltb, le-ltb, le-leb, lt-leb, eq-eqb, ne-eqb}
+
+-- a test does not both pass and fail
+pub not-both : {b : Bool} → b ≡ true → b ≡ false → ⊥
+not-both p q = subst T (sym p ∙ q) tt
 
 -- A TEST'S VALUE WITH ITS FACT, to go by cases: `go (eqb x v) (sameBy x v)`
 
@@ -92,11 +96,7 @@ pub pick-same {ℓ} : {A : Type ℓ} (q : Bool) (a : A) → pick q a a ≡ a
 pick-same true a = refl
 pick-same false a = refl
 
--- a choice that is 0 did not take a number that is not
-pub pick-past : (q : Bool) (m r : ℕ) → m ≢ 0 → pick q m r ≡ 0 → (q ≡ false) × (r ≡ 0)
-pick-past true m r n e = absurd (n e)
-pick-past false m r n e = (refl, e)
-
--- a choice by a net that is there
-pub pick-not-zero : (v z : ℕ) → v ≢ 0 → pick (eqb v 0) 0 z ≡ z
-pick-not-zero v z n = rw (ne-eqb v 0 n)
+-- a choice that is n did not take a number that is not
+pub pick-past : (q : Bool) (m r n : ℕ) → m ≢ n → pick q m r ≡ n → (q ≡ false) × (r ≡ n)
+pick-past true m r n d e = absurd (d e)
+pick-past false m r n d e = (refl, e)

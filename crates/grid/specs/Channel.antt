@@ -85,7 +85,7 @@ module _ (top bottom : List ℕ) where
   unfoldable pub tracks : ℕ
   tracks = tracksOf family density
 
-  -- The number of the rows' refusal, 0 for none, "checked from the top down": 4 "lengths differ", 5 "over 256 columns; in `knee` over 64" (the limit is
+  -- The number of the rows' refusal, 0 for none, "Checked from the top down": 4 "lengths differ", 5 "over 256 columns; in `knee` over 64" (the limit is
   -- `most`), 6 "a number over 256", 7 "a net with one pin"
   unfoldable pub rowsRefused : (most : ℕ) → ℕ
   rowsRefused most =

@@ -44,7 +44,7 @@ pub record OnePiece (v h : ℕ → ℕ → ℕ) (N : ℕ) : Type 0 where
 pub record Solution (top bottom : List ℕ) (w t : ℕ) (D : List ℕ) : Type 0 where
   pub size : length D ≡ w * (2 * t + 1)
   -- "w is at least n;"
-  pub wide : length top ≤ w
+  pub covers : length top ≤ w
   -- "every entry is 0 or a net of the channel;"
   pub nets : (i : ℕ) → i < length D → (getD D i 0 ≡ 0) ⊎ (0 < pins top bottom (getD D i 0))
   -- "each column's first and last vertical entries equal its bottom and top pin (0 where there is none, also past column n; for t = 0 the one entry

@@ -16,7 +16,7 @@ pub record Rows (top bottom : List ℕ) : Type 0 where
   pub below : over bottom ≡ false
 
 -- a list of 257 places with a figure of each net 1 to 256 at its number; at 0 stands anything
-pub record Figures (f : ℕ → ℕ) (l : List ℕ) : Type 0 where
+pub record ByNet (f : ℕ → ℕ) (l : List ℕ) : Type 0 where
   pub size : length l ≡ 257
   pub at : (v : ℕ) → 1 ≤ v → v ≤ 256 → getD l v 0 ≡ f v
 

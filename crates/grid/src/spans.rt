@@ -4,7 +4,7 @@ ghost use Prim.Native.Nat.{_+_, _<_};
 ghost use lib.ListN.{length, getD, set};
 ghost use Rattle.grid.specs.Channel.{pins as pinsOf};
 ghost use Rattle.grid.specs.Nets.{firstColumn, lastColumn, zeroTable};
-ghost use Rattle.grid.specs.Working.{Rows, Figures, Filled};
+ghost use Rattle.grid.specs.Working.{Rows, ByNet, Filled};
 
 // A number as an index.
 pub(crate) fn as_index(x: u16) -> usize
@@ -26,8 +26,8 @@ fn note(net: usize, c: u16, last: &mut [u16], pins: &mut [u16])
 // Notes the last column and the pin count of each net, from the left.
 fn note_from_left(top: &[u16], bottom: &[u16], last: &mut [u16], pins: &mut [u16])
     requires { ⌜ Rows (now top) (now bottom) × (now last ≡ zeroTable) × (now pins ≡ zeroTable) ⌝ }
-    ensures last { λ _. ⌜ Figures (lastColumn (now (top .entry)) (now (bottom .entry))) (now (last .exit)) ⌝ }
-    ensures pins { λ _. ⌜ Figures (pinsOf (now (top .entry)) (now (bottom .entry))) (now (pins .exit)) ⌝ }
+    ensures last { λ _. ⌜ ByNet (lastColumn (now (top .entry)) (now (bottom .entry))) (now (last .exit)) ⌝ }
+    ensures pins { λ _. ⌜ ByNet (pinsOf (now (top .entry)) (now (bottom .entry))) (now (pins .exit)) ⌝ }
 {
     let mut i = 0;
     let mut c = 1u16;
@@ -42,7 +42,7 @@ fn note_from_left(top: &[u16], bottom: &[u16], last: &mut [u16], pins: &mut [u16
 // Notes the first column of each net, from the right: the pin stored last is the leftmost.
 fn note_from_right(top: &[u16], bottom: &[u16], first: &mut [u16])
     requires { ⌜ Rows (now top) (now bottom) × (now first ≡ zeroTable) ⌝ }
-    ensures { λ _. ⌜ Figures (firstColumn (now (top .entry)) (now (bottom .entry))) (now (first .exit)) ⌝ }
+    ensures { λ _. ⌜ ByNet (firstColumn (now (top .entry)) (now (bottom .entry))) (now (first .exit)) ⌝ }
 {
     let mut i = top.len();
     let mut c = i as u16;

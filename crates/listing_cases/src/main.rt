@@ -12,10 +12,10 @@ fn count_at(stream: &[u8], at: usize) -> usize
     requires { ⌜ at + 1 < length (now stream) ⌝ }
     ensures { λ r. ⌜ r ≤ 65535 ⌝ }
 {
-    wide(stream[at]) + 256 * wide(stream[at + 1])
+    widened(stream[at]) + 256 * widened(stream[at + 1])
 }
 
-fn wide(b: u8) -> usize
+fn widened(b: u8) -> usize
     ensures { λ r. ⌜ r ≤ 255 ⌝ }
 {
     b as usize

@@ -12,7 +12,7 @@ use Rattle.grid.specs.Refusals.{firstRefusal, ifAccepted}
 use Rattle.grid.specs.declared.RowCheck.{RowCheck}
 use Rattle.grid.specs.declared.RowCheck.the-variants as rows
 use Rattle.grid.specs.Answers.{rowCheck, numberOf as rowNumber}
-use Rattle.grid.proofs.Answers.{check-number, accepted-old, refused as row-refused}
+use Rattle.grid.proofs.Answers.{check-number, accepted-old, no-later, refused as row-refused}
 use Rattle.grid.proofs.Tests.{Below, above, belowBy, lt-ltb, le-ltb}
 use Rattle.report.specs.declared.NetRecord.{NetRecord}
 use Rattle.report.specs.declared.Reported.{Reported}
@@ -100,11 +100,7 @@ module _ (top bottom : List ℕ) (size : ℕ) where
 -- it is long enough: only the rows are refused
 of-blank : (top bottom : List ℕ) → refused top bottom (length blankTable) ≡ rowsRefused top bottom 256
 unfolding refused
-of-blank top bottom = ap (λ (b : Bool). firstRefusal (rowsRefused top bottom 256) (pick b 9 0)) (le-ltb (length blankTable) 256 (omega (arith, blank-long))) ∙ go (rowsRefused top bottom 256)
-  where
-    go : (k : ℕ) → firstRefusal k 0 ≡ k
-    go zero = refl
-    go (suc k) = refl
+of-blank top bottom = ap (λ (b : Bool). firstRefusal (rowsRefused top bottom 256) (pick b 9 0)) (le-ltb (length blankTable) 256 (omega (arith, blank-long))) ∙ no-later (rowsRefused top bottom 256)
 
 -- a table made of zeros for the call: the records on acceptance, and zeros on refusal
 abbrev pub Replied : (top bottom : List ℕ) → Reported → List NetRecord → Type 0

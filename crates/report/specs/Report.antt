@@ -39,7 +39,7 @@ module _ (top bottom : List ℕ) where
   unfoldable pub records : List NetRecord
   records = upTo recordOf 256
 
-  -- The number of the refusal, 0 for none, "checked from the top down": those of the rows, 4 to 7, then 9 "net table under 256 records"
+  -- The number of the refusal, 0 for none, "Checked from the top down": those of the rows, 4 to 7, then 9 "net table under 256 records"
   unfoldable pub refused : (size : ℕ) → ℕ
   refused size = firstRefusal (rowsRefused top bottom 256) (pick (ltb size 256) 9 0)
 

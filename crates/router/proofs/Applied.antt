@@ -1,15 +1,15 @@
--- What the sweep's code goes by: every column's action applies, the gaps are lists of t nets up to 256, and the layout fits the slice.
-use Prim.Native.Nat.{ℕ, _+_, _*_, _-_, _/_, _≤_, _<_}
-use mathlib.Core.Path.{_≡_, refl}
+-- What the router's code goes by: every column's action fits its gap, the layout is a solution, and it fits the slice.
+use Prim.Native.Nat.{ℕ, _+_, _*_, _-_, _/_, _≤_}
+use mathlib.Core.Path.{_≡_}
 use mathlib.Core.Logic.{_⊎_, inl, inr}
 use mathlib.Core.List.{List}
 use Rattle.grid.specs.Grid.{Solution}
 use native.Mathlib.Omega.{arith}
 use native.Mathlib.Nat.{mul-le-mul-right}
-use native.Mathlib.Decide.{decLt, ℕ-discrete}
+use native.Mathlib.Decide.{ℕ-discrete}
 use lib.ListN.{length, getD}
 use Rattle.grid.specs.Channel.{tracks, rowsRefused}
-use Rattle.grid.proofs.Counting.{holds-times, at-below}
+use Rattle.grid.proofs.Counting.{small-in}
 use Rattle.grid.proofs.Rows.{RowsFit, rows-fit, rows-short, pin-small}
 use Rattle.grid.proofs.OpenNets.{tracks-small}
 use Rattle.sweep.specs.Drawing.{action, gap}
@@ -27,17 +27,7 @@ use Rattle.sweep.proofs.Drawing.Sweep.{sound}
 module _ (t : ℕ) (top bottom : List ℕ) (fit : RowsFit top bottom) (enough : Enough t top bottom) where
   -- a strand's net is one of 1 to 256
   gap-nets : (c : ℕ) → c ≤ length top → (j : ℕ) → getD (gap t top bottom c) j 0 ≤ 256
-  gap-nets c p j = go (decLt 256 (getD (gap t top bottom c) j 0))
-    where
-      go : Dec (256 < getD (gap t top bottom c) j 0) → getD (gap t top bottom c) j 0 ≤ 256
-      go (no q) = omega arith
-      go (yes q) =
-          absurd (omega (
-            arith,
-            no-more top bottom fit c (gap t top bottom c) (gaps t top bottom fit enough c p) (getD (gap t top bottom c) j 0) q,
-            holds-times (gap t top bottom c) j (getD (gap t top bottom c) j 0)
-                (at-below (gap t top bottom c) j (getD (gap t top bottom c) j 0) (omega arith) refl) refl,
-          ))
+  gap-nets c p = small-in (gap t top bottom c) (no-more top bottom fit c (gap t top bottom c) (gaps t top bottom fit enough c p))
 
   -- THE TRACKS THAT A COLUMN GIVES ARE FREE BY THEN, and its nets are the column's, numbered up to 256
   pub column-fits : EachFits t top bottom

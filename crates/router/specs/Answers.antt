@@ -1,4 +1,4 @@
--- Document 01, "Refused, by place", and the figures: what the calls of the sweep answer, and what a routing call leaves in its slice.
+-- Document 01, "Refused, by place", and the figures: what the calls of the router answer, and what a routing call leaves in its slice.
 use Prim.Native.Nat.{ℕ, zero, suc, _+_, _*_, _/_}
 use mathlib.Core.List.{List, _++_}
 use lib.Dec.{ltb}

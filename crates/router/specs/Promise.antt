@@ -14,5 +14,5 @@ use Rattle.router.specs.declared.Figures.{Figures}
 pub record Solves (top bottom slice : List ℕ) (x : Figures) : Type 0 where
   pub solution : Solution top bottom (x .width) (x .tracks) (take (x .width * (2 * x .tracks + 1)) slice)
   pub dense : x .density ≡ density top bottom
-  pub two : family top bottom ≡ TwoPin → x .tracks ≡ x .density
-  pub many : family top bottom ≡ ManyPin → x .tracks ≡ 2 * x .density - 1
+  pub twoPin : family top bottom ≡ TwoPin → x .tracks ≡ x .density
+  pub manyPin : family top bottom ≡ ManyPin → x .tracks ≡ 2 * x .density - 1

@@ -7,6 +7,7 @@ use mathlib.Core.Bool.{Bool, true, false, not, _&&_}
 use lib.Dec.{eqb, ltb, leb}
 use lib.ListN.{take, drop, getD, length, replicate}
 use Rattle.grid.specs.Channel.{pick, left, family}
+use Rattle.grid.specs.Working.{ByNet}
 use Rattle.grid.specs.declared.Family.{Family}
 use Rattle.grid.specs.declared.Family.the-variants.{TwoPin, ManyPin}
 use Rattle.sets.specs.Member.{member, Lowest}
@@ -20,8 +21,8 @@ use Rattle.sweep.specs.Drawing.{kindBy, noPin, noJoint, freeOf, later, action, 
 use Rattle.sweep.specs.Working.{Applies, Plain}
 
 -- the tracks 1 to t of an array that holds track y at index y
-abbrev pub tracksOf : ℕ → List ℕ → List ℕ
-tracksOf t a = take t (drop 1 a)
+abbrev pub tracksIn : ℕ → List ℕ → List ℕ
+tracksIn t a = take t (drop 1 a)
 
 -- what the end of net v leaves of a track that holds x
 abbrev pub swept : ℕ → ℕ → ℕ
@@ -45,23 +46,22 @@ pub record Frees (t : ℕ) (a s : List ℕ) : Type 0 where
 
 -- r is what F does with the two lowest free tracks, where s is the set of the free ones
 abbrev pub WithFree : (s : List ℕ) (F : Free → Action) (r : Action) → Type 0
-WithFree s F r = (t : ℕ) (a : List ℕ) → t ≤ 511 → length a ≡ 512 → Frees t a s → r ≡ F (freeOf (tracksOf t a))
+WithFree s F r = (t : ℕ) (a : List ℕ) → t ≤ 511 → length a ≡ 512 → Frees t a s → r ≡ F (freeOf (tracksIn t a))
 
--- an array of 257 holds at each net what g says of it on the tracks tr
-pub record Indexes (g : ℕ → List ℕ → ℕ) (xs tr : List ℕ) : Type 0 where
-  pub sized : length xs ≡ 257
-  pub at : (v : ℕ) → 0 < v → v ≤ 256 → getD xs v 0 ≡ g v tr
+-- the arrays hold each net's lowest and highest strand on the tracks tr
+abbrev pub LowsAndHighs : (low high tr : List ℕ) → Type 0
+LowsAndHighs low high tr = ByNet (λ v. lowest v tr) low × ByNet (λ v. highest v tr) high
 
 -- the arrays hold the t tracks tr, and each net's lowest and highest strand and how many it has; f is the set of the free tracks
 pub record Holds (t : ℕ) (tr a f low high number : List ℕ) : Type 0 where
   pub fits : t ≤ 511
   pub sized : length a ≡ 512
   pub nets : (j : ℕ) → getD a j 0 ≤ 256
-  pub is : tracksOf t a ≡ tr
+  pub is : tracksIn t a ≡ tr
   pub frees : Frees t a f
-  pub lows : Indexes lowest low tr
-  pub highs : Indexes highest high tr
-  pub numbers : Indexes many number tr
+  pub lows : ByNet (λ v. lowest v tr) low
+  pub highs : ByNet (λ v. highest v tr) high
+  pub numbers : ByNet (λ v. many v tr) number
 
 -- first and last hold each net's first and last column, counted from 1; 0 for a net with no pins
 pub record Spans (top bottom first last : List ℕ) : Type 0 where

@@ -13,7 +13,7 @@ ghost use Rattle.grid.specs.Channel.{count};
 ghost use Rattle.sweep.specs.Tracks.{clear};
 ghost use Rattle.sweep.specs.Rules.{act, noTrack};
 ghost use Rattle.sweep.specs.Drawing.{remains, added};
-ghost use Rattle.router.specs.Working.{tracksOf, Holds, Remaining, withJoining};
+ghost use Rattle.router.specs.Working.{tracksIn, Holds, Remaining, withJoining};
 
 // The action that joins the strands of a net, from the lowest to the highest, and nothing else.
 fn joining(v: u16, low: u16, high: u16) -> Action
@@ -44,11 +44,11 @@ fn join_net(
     w: usize,
 )
     requires { ⌜ (0 < v) × (v ≤ 256) × (w ≤ 511) ⌝ }
-    requires { ⌜ Holds t (tracksOf t (now tracks)) (now tracks) (now free) (now low) (now high) (now many) ⌝ }
+    requires { ⌜ Holds t (tracksIn t (now tracks)) (now tracks) (now free) (now low) (now high) (now many) ⌝ }
     requires { ⌜ w * (2 * t + 1) + (2 * t + 1) ≤ length (now layout) ⌝ }
-    ensures { λ _. ⌜ Holds t (clear v (tracksOf t (now (tracks .entry))))
+    ensures { λ _. ⌜ Holds t (clear v (tracksIn t (now (tracks .entry))))
         (now (tracks .exit)) (now (free .exit)) (now (low .exit)) (now (high .exit)) (now (many .exit)) ⌝ }
-    ensures { λ _. ⌜ now (layout .exit) ≡ withJoining t (tracksOf t (now (tracks .entry))) v w (now (layout .entry)) ⌝ }
+    ensures { λ _. ⌜ now (layout .exit) ≡ withJoining t (tracksIn t (now (tracks .entry))) v w (now (layout .entry)) ⌝ }
 {
     let i = v as usize;
     let x = joining(v, low[i], high[i]);
@@ -71,13 +71,13 @@ pub(crate) fn finish(
     n: usize,
 ) -> usize
     requires { ⌜ n ≤ 256 ⌝ }
-    requires { ⌜ n + count (remains (tracksOf t (now tracks))) 256 ≤ 511 ⌝ }
-    requires { ⌜ Holds t (tracksOf t (now tracks)) (now tracks) (now free) (now low) (now high) (now many) ⌝ }
-    requires { ⌜ Remaining (tracksOf t (now tracks)) (now extended) ⌝ }
-    requires { ⌜ (n + count (remains (tracksOf t (now tracks))) 256) * (2 * t + 1) ≤ length (now layout) ⌝ }
-    ensures { λ r. ⌜ r ≡ n + count (remains (tracksOf t (now (tracks .entry)))) 256 ⌝ }
+    requires { ⌜ n + count (remains (tracksIn t (now tracks))) 256 ≤ 511 ⌝ }
+    requires { ⌜ Holds t (tracksIn t (now tracks)) (now tracks) (now free) (now low) (now high) (now many) ⌝ }
+    requires { ⌜ Remaining (tracksIn t (now tracks)) (now extended) ⌝ }
+    requires { ⌜ (n + count (remains (tracksIn t (now tracks))) 256) * (2 * t + 1) ≤ length (now layout) ⌝ }
+    ensures { λ r. ⌜ r ≡ n + count (remains (tracksIn t (now (tracks .entry)))) 256 ⌝ }
     ensures { λ r. ⌜ now (layout .exit) ≡ take (n * (2 * t + 1)) (now (layout .entry))
-        ++ (added t (tracksOf t (now (tracks .entry))) 256 ++ drop (r * (2 * t + 1)) (now (layout .entry))) ⌝ }
+        ++ (added t (tracksIn t (now (tracks .entry))) 256 ++ drop (r * (2 * t + 1)) (now (layout .entry))) ⌝ }
 {
     let mut w = n;
     let mut v = nets::lowest_net(extended);

@@ -1,4 +1,5 @@
-// The rules of both sweeps: what a column does, from its pins, the free tracks and the net of rule 2.
+// Rule 2 of two-pin channels and the rules of many-pin ones: what a column does, from its pins, the free tracks and the net of rule 2. The other rules of
+// two-pin channels are in columns.rt.
 use crate::actions;
 use crate::nets;
 use sweep::Action;

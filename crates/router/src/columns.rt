@@ -12,9 +12,9 @@ use sweep::Pin;
 ghost use mathlib.Core.Path.{_≡_};
 ghost use Prim.Native.Nat.{ℕ, _+_, _*_, _<_, _≤_};
 ghost use lib.ListN.{length};
-ghost use Rattle.sweep.specs.Tracks.{lowest, highest, after};
+ghost use Rattle.sweep.specs.Tracks.{after};
 ghost use Rattle.sweep.specs.Drawing.{action, gap};
-ghost use Rattle.router.specs.Working.{tracksOf, Frees, Indexes, Next, IsLowestJoint, ChosenTwo, RowsAndLasts, Ready, Fitting};
+ghost use Rattle.router.specs.Working.{tracksIn, Frees, LowsAndHighs, Next, IsLowestJoint, ChosenTwo, RowsAndLasts, Ready, Fitting};
 ghost use Rattle.router.specs.Working.{FitsAt, EachFits, Keeps, AtGap, DrawnTo};
 
 // The net that rule 2 of a two-pin channel joins in column c + 1: the lowest of the extended ones.
@@ -28,10 +28,10 @@ fn lowest_joint(
     c: u16,
 ) -> Joint
     requires { ⌜ (t ≤ 511) × (length (now tracks) ≡ 512) × (c < 256) ⌝ }
-    requires { ⌜ Indexes lowest (now low) (tracksOf t (now tracks)) × Indexes highest (now high) (tracksOf t (now tracks)) ⌝ }
+    requires { ⌜ LowsAndHighs (now low) (now high) (tracksIn t (now tracks)) ⌝ }
     requires { ⌜ ((v : ℕ) → Next (now extended) 0 v → v ≤ 256) ⌝ }
     ensures { λ r. ⌜ IsLowestJoint (now (last .entry)) (now (low .entry)) (now (high .entry)) (now (extended .entry))
-        (tracksOf t (now (tracks .entry))) c r ⌝ }
+        (tracksIn t (now (tracks .entry))) c r ⌝ }
 {
     nets::joint_at(tracks, last, low, high, t, c, nets::lowest_net(extended))
 }
@@ -50,10 +50,10 @@ fn pair_column(
     t: usize,
 ) -> Action
     requires { ⌜ (a .kind ≤ 3) × (b .kind ≤ 3) × (c < 256) × (t ≤ 511) × (length (now tracks) ≡ 512) × Frees t (now tracks) (now free) ⌝ }
-    requires { ⌜ Indexes lowest (now low) (tracksOf t (now tracks)) × Indexes highest (now high) (tracksOf t (now tracks)) ⌝ }
+    requires { ⌜ LowsAndHighs (now low) (now high) (tracksIn t (now tracks)) ⌝ }
     requires { ⌜ ((v : ℕ) → Next (now extended) 0 v → v ≤ 256) ⌝ }
     ensures { λ r. ⌜ ChosenTwo t a b (now (last .entry)) (now (low .entry)) (now (high .entry)) (now (extended .entry))
-        (tracksOf t (now (tracks .entry))) c r ⌝ }
+        (tracksIn t (now (tracks .entry))) c r ⌝ }
 {
     if (a.net != 0) & (a.net == b.net) {
         return actions::go_full(t as u16, a.net, 0);
@@ -107,8 +107,8 @@ fn column_at(
 ) -> Action
     requires { ⌜ c < length (now top) ⌝ }
     requires { ⌜ Ready (now top) (now bottom) (now first) (now last) t family ⌝ }
-    requires { ⌜ Keeps (now last) t family c (tracksOf t (now tracks)) (now tracks) (now free) (now low) (now high) (now many) (now extended) (now wide) ⌝ }
-    ensures { λ r. ⌜ r ≡ action t (now (top .entry)) (now (bottom .entry)) c (tracksOf t (now (tracks .entry))) ⌝ }
+    requires { ⌜ Keeps (now last) t family c (tracksIn t (now tracks)) (now tracks) (now free) (now low) (now high) (now many) (now extended) (now wide) ⌝ }
+    ensures { λ r. ⌜ r ≡ action t (now (top .entry)) (now (bottom .entry)) c (tracksIn t (now (tracks .entry))) ⌝ }
 {
     let k = c as u16;
     let p = top[c];
@@ -144,9 +144,9 @@ pub(crate) fn settle(
 )
     requires { ⌜ c < length (now top) ⌝ }
     requires { ⌜ RowsAndLasts (now top) (now bottom) (now last) ⌝ }
-    requires { ⌜ Keeps (now last) t family c (tracksOf t (now tracks)) (now tracks) (now free) (now low) (now high) (now many) (now extended) (now wide) ⌝ }
-    requires { ⌜ (x ≡ action t (now top) (now bottom) c (tracksOf t (now tracks))) × Fitting (now top) (now bottom) c x (tracksOf t (now tracks)) ⌝ }
-    ensures { λ _. ⌜ Keeps (now (last .entry)) t family (c + 1) (after x (tracksOf t (now (tracks .entry)))) (now (tracks .exit)) (now (free .exit))
+    requires { ⌜ Keeps (now last) t family c (tracksIn t (now tracks)) (now tracks) (now free) (now low) (now high) (now many) (now extended) (now wide) ⌝ }
+    requires { ⌜ (x ≡ action t (now top) (now bottom) c (tracksIn t (now tracks))) × Fitting (now top) (now bottom) c x (tracksIn t (now tracks)) ⌝ }
+    ensures { λ _. ⌜ Keeps (now (last .entry)) t family (c + 1) (after x (tracksIn t (now (tracks .entry)))) (now (tracks .exit)) (now (free .exit))
         (now (low .exit)) (now (high .exit)) (now (many .exit)) (now (extended .exit)) (now (wide .exit)) ⌝ }
 {
     index::apply(tracks, free, low, high, many, t, x);

@@ -6,7 +6,7 @@ ghost use Prim.Native.Nat.{_+_, _<_, _≤_, max};
 ghost use lib.ListN.{length, getD, set};
 ghost use Rattle.sweep.specs.Tracks.{lesser, clear, give, after};
 ghost use Rattle.sweep.specs.Working.{FreeAt, Applies};
-ghost use Rattle.router.specs.Working.{tracksOf, swept, Swept, NoneBetween, Frees, Holds, blank};
+ghost use Rattle.router.specs.Working.{tracksIn, swept, Swept, NoneBetween, Frees, Holds, blank};
 
 // The set of t free tracks.
 pub(crate) fn all_free(t: usize) -> [u64; 8]
@@ -81,8 +81,8 @@ pub(crate) fn drop_net(
     t: usize,
     net: u16,
 )
-    requires { ⌜ (net ≤ 256) × Holds t (tracksOf t (now tracks)) (now tracks) (now free) (now low) (now high) (now many) ⌝ }
-    ensures { λ _. ⌜ Holds t (clear net (tracksOf t (now (tracks .entry))))
+    requires { ⌜ (net ≤ 256) × Holds t (tracksIn t (now tracks)) (now tracks) (now free) (now low) (now high) (now many) ⌝ }
+    ensures { λ _. ⌜ Holds t (clear net (tracksIn t (now (tracks .entry))))
         (now (tracks .exit)) (now (free .exit)) (now (low .exit)) (now (high .exit)) (now (many .exit)) ⌝ }
 {
     if net == 0 {
@@ -128,9 +128,9 @@ fn add_strand(
     t: usize,
     g: Gift,
 )
-    requires { ⌜ (g .net ≤ 256) × FreeAt (g .track) (tracksOf t (now tracks))
-        × Holds t (tracksOf t (now tracks)) (now tracks) (now free) (now low) (now high) (now many) ⌝ }
-    ensures { λ _. ⌜ Holds t (give (g .track) (g .net) (tracksOf t (now (tracks .entry))))
+    requires { ⌜ (g .net ≤ 256) × FreeAt (g .track) (tracksIn t (now tracks))
+        × Holds t (tracksIn t (now tracks)) (now tracks) (now free) (now low) (now high) (now many) ⌝ }
+    ensures { λ _. ⌜ Holds t (give (g .track) (g .net) (tracksIn t (now (tracks .entry))))
         (now (tracks .exit)) (now (free .exit)) (now (low .exit)) (now (high .exit)) (now (many .exit)) ⌝ }
 {
     let track = g.track;
@@ -160,8 +160,8 @@ pub(crate) fn apply(
     t: usize,
     x: Action,
 )
-    requires { ⌜ Applies x (tracksOf t (now tracks)) × Holds t (tracksOf t (now tracks)) (now tracks) (now free) (now low) (now high) (now many) ⌝ }
-    ensures { λ _. ⌜ Holds t (after x (tracksOf t (now (tracks .entry))))
+    requires { ⌜ Applies x (tracksIn t (now tracks)) × Holds t (tracksIn t (now tracks)) (now tracks) (now free) (now low) (now high) (now many) ⌝ }
+    ensures { λ _. ⌜ Holds t (after x (tracksIn t (now (tracks .entry))))
         (now (tracks .exit)) (now (free .exit)) (now (low .exit)) (now (high .exit)) (now (many .exit)) ⌝ }
 {
     drop_net(tracks, free, low, high, many, t, x.ended);

@@ -10,11 +10,11 @@ ghost use lib.Dec.{ltb};
 ghost use lib.ListN.{length, getD};
 ghost use Rattle.sweep.specs.Tracks.{second, lowest, highest};
 ghost use Rattle.sweep.specs.Drawing.{freeOf};
-ghost use Rattle.router.specs.Working.{tracksOf, Frees, Indexes, Next, ToJoin, MarkedAt, MarksNet, MarksThree, jointBy, narrow};
+ghost use Rattle.router.specs.Working.{tracksIn, Frees, LowsAndHighs, Next, ToJoin, MarkedAt, MarksNet, MarksThree, jointBy, narrow};
 
 // The two lowest free tracks.
 pub(crate) fn free_tracks(free: &[u64; 8]) -> Free
-    ensures { λ r. ⌜ ((t : ℕ) (a : List ℕ) → t ≤ 511 → length a ≡ 512 → Frees t a (now (free .entry)) → r ≡ freeOf (tracksOf t a)) ⌝ }
+    ensures { λ r. ⌜ ((t : ℕ) (a : List ℕ) → t ≤ 511 → length a ≡ 512 → Frees t a (now (free .entry)) → r ≡ freeOf (tracksIn t a)) ⌝ }
 {
     let f = sets::lowest(free) % 512;
     let g = sets::above(free, f) % 512;
@@ -52,8 +52,8 @@ pub(crate) fn net_to_join(extended: &[u64; 8], wide: &[u64; 8]) -> u16
 
 // The second lowest strand of a net whose lowest is a and highest b, 0 where there is none.
 fn second_of(tracks: &[u16; 512], a: u16, b: u16, t: usize, v: u16) -> u16
-    requires { ⌜ (t ≤ 511) × (length (now tracks) ≡ 512) × (a ≡ lowest v (tracksOf t (now tracks))) × (b ≡ highest v (tracksOf t (now tracks))) ⌝ }
-    ensures { λ r. ⌜ r ≡ second v (tracksOf t (now (tracks .entry))) ⌝ }
+    requires { ⌜ (t ≤ 511) × (length (now tracks) ≡ 512) × (a ≡ lowest v (tracksIn t (now tracks))) × (b ≡ highest v (tracksIn t (now tracks))) ⌝ }
+    ensures { λ r. ⌜ r ≡ second v (tracksIn t (now (tracks .entry))) ⌝ }
 {
     let last = b as usize;
     let mut y = a as usize;
@@ -79,8 +79,8 @@ pub(crate) fn joint_at(
     v: u16,
 ) -> Joint
     requires { ⌜ (t ≤ 511) × (length (now tracks) ≡ 512) × (c < 256) × (v ≤ 256) ⌝ }
-    requires { ⌜ Indexes lowest (now low) (tracksOf t (now tracks)) × Indexes highest (now high) (tracksOf t (now tracks)) ⌝ }
-    ensures { λ r. ⌜ r ≡ jointBy (getD (now (last .entry)) v 0) (getD (now (low .entry)) v 0) (second v (tracksOf t (now (tracks .entry))))
+    requires { ⌜ LowsAndHighs (now low) (now high) (tracksIn t (now tracks)) ⌝ }
+    ensures { λ r. ⌜ r ≡ jointBy (getD (now (last .entry)) v 0) (getD (now (low .entry)) v 0) (second v (tracksIn t (now (tracks .entry))))
         (getD (now (high .entry)) v 0) c v ⌝ }
 {
     if v == 0 {

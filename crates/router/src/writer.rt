@@ -7,7 +7,7 @@ ghost use lib.ListN.{length, take, drop};
 ghost use mathlib.Core.List.{_++_};
 ghost use Rattle.sweep.specs.Tracks.{listed, verticals};
 ghost use Rattle.sweep.specs.Working.{Flat};
-ghost use Rattle.router.specs.Working.{tracksOf, runs, twoRuns};
+ghost use Rattle.router.specs.Working.{tracksIn, runs, twoRuns};
 
 // The vertical edge between the rows k and k + 1: of net q below row a, of net m from there to row b, of net p above.
 fn vertical_at(k: u16, q: u16, a: u16, m: u16, b: u16, p: u16) -> u16
@@ -72,7 +72,7 @@ fn write_verticals(part: &mut [u16], t: usize, x: Action)
 // Copies the tracks that leave a column behind its vertical edges.
 fn copy_tracks(part: &mut [u16], tracks: &[u16; 512], t: usize)
     requires { ⌜ (t ≤ 511) × (length (now part) ≡ 2 * t + 1) × (length (now tracks) ≡ 512) ⌝ }
-    ensures { λ _. ⌜ now (part .exit) ≡ take (t + 1) (now (part .entry)) ++ tracksOf t (now (tracks .entry)) ⌝ }
+    ensures { λ _. ⌜ now (part .exit) ≡ take (t + 1) (now (part .entry)) ++ tracksIn t (now (tracks .entry)) ⌝ }
 {
     let mut i = 0;
     while i < t {
@@ -84,7 +84,7 @@ fn copy_tracks(part: &mut [u16], tracks: &[u16; 512], t: usize)
 // Writes a column: its vertical edges, and the tracks that leave it.
 pub(crate) fn write_column(part: &mut [u16], tracks: &[u16; 512], t: usize, x: Action)
     requires { ⌜ (t ≤ 511) × (length (now part) ≡ 2 * t + 1) × (length (now tracks) ≡ 512) × Flat (x .wires) ⌝ }
-    ensures { λ _. ⌜ now (part .exit) ≡ verticals t x ++ tracksOf t (now (tracks .entry)) ⌝ }
+    ensures { λ _. ⌜ now (part .exit) ≡ verticals t x ++ tracksIn t (now (tracks .entry)) ⌝ }
 {
     write_verticals(part, t, x);
     copy_tracks(part, tracks, t);

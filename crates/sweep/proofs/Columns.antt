@@ -1,4 +1,4 @@
--- A column: the entries that an action draws, and the actions whose column fits.
+-- A column: the entries that an action draws, the actions whose column fits, and the nets whose strands it leaves alone.
 pub mod Entries
 pub mod Sound
 pub mod Others

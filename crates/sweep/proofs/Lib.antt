@@ -3,7 +3,7 @@
 -- Columns  the entries that an action draws, and what makes its column fit: a sound action
 -- Gaps     the invariant of the tracks in a gap, and what an action has to show besides to keep it
 -- Actions  each action by itself is good: sound, and it keeps the invariant
--- Rules    the free tracks that the rules ask for are there, and whatever they choose is good
+-- Rules    the free tracks that the rules ask for are there, and whatever they choose is good; the pairs of kinds by number
 -- Drawing  the invariant in every gap, the columns 1 to n, the columns added
 -- Solved   the theorems
 pub mod Tracks

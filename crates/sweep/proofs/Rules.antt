@@ -1,4 +1,5 @@
--- The rules: the free tracks that they ask for are there, and whatever they choose is good.
+-- The rules: the free tracks that they ask for are there, whatever they choose is good, the pairs of kinds by number, and the second strand, which matters
+-- only where a net leaves on it.
 pub mod Room
 pub mod Chosen
 pub mod Kinds

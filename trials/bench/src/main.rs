@@ -132,7 +132,7 @@ fn main() {
         "the drawing's entries. Times are for one channel, medians of {repetitions} interleaved"
     );
     println!("repetitions in one run of this command, in the root of the repository:\n");
-    println!("    cargo run --release --manifest-path trials/Cargo.toml -p bench\n");
+    println!("    cargo run --release --manifest-path trials/Cargo.toml -p bench -- {repetitions} {columns}\n");
     println!("| call | n | pins | library | Rust | library / Rust | fill | library / fill |");
     println!("|---|---|---|---|---|---|---|---|");
     let calls: [(&str, Measure); 3] = [("density", density), ("route", route), ("check", check)];

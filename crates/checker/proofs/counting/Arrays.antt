@@ -12,6 +12,7 @@ use native.Mathlib.Decide.{ℕ-discrete}
 use native.Mathlib.Numerals.{add-one}
 use Rattle.grid.specs.Channel.{pick, bit}
 use Rattle.grid.proofs.Tests.{eq-eqb, ne-eqb, bit-most}
+use Rattle.grid.proofs.Tables.{tallied-at}
 use Rattle.pieces.specs.Labels.{sub, choose, target, lost}
 use Rattle.pieces.proofs.Hooks.{sub-hit, sub-miss, sub-self}
 use Rattle.checker.specs.Working.{chosen, Merged, Grown, JoinCounted, PieceCounted}
@@ -70,13 +71,6 @@ chosen-more net f q cs e l o a y = go (ℕ-discrete (net e) 0) (ℕ-discrete (ne
     go (no z) (yes d) y = rw (ne-eqb (net e) 0 z, eq-eqb (net e) (net q) d) (a (λ k. z (d ∙ k)))
     go (no z) (no d) y = let k = ne-eqb (net e) 0 z in rw (k, ne-eqb (net e) (net q) d) (rw k at y)
 
--- one more for net M
-set-more : (a : List ℕ) (M N : ℕ) → M < length a → getD (set a M (getD a M 0 + 1)) N 0 ≡ getD a N 0 + bit (eqb M N)
-set-more a M N l =
-    let c = getD a M 0 + 1 in
-    by-cases (ℕ-discrete N M) (λ e. rw (e, getD-set-same a M c 0 l, eq-eqb M M refl))
-    (λ e. rw (getD-set-other a M N c 0 e, ne-eqb M N (λ x. e (sym x))) (omega arith))
-
 -- a table that stays
 grown-none : (a : List ℕ) → Grown a a
 grown-none a = record { long = refl; most = λ N l. omega arith }
@@ -85,7 +79,7 @@ grown-none a = record { long = refl; most = λ N l. omega arith }
 grown-one : (a : List ℕ) (M : ℕ) → M < length a → Grown a (set a M (getD a M 0 + 1))
 grown-one a M l = record {
   long = length-set a M (getD a M 0 + 1);
-  most = λ N i. omega (arith, set-more a M N l, bit-most (eqb M N));
+  most = λ N i. omega (arith, tallied-at a M N l, bit-most (eqb M N));
 }
 
 -- equal labels are no join
@@ -96,12 +90,12 @@ joined-none a b M joined e = record { grown = grown-none joined; counts = λ N l
 pub joined-one :
     (a b M : ℕ) (joined : List ℕ) → a ≢ b → M < length joined → JoinCounted a b M joined (set joined M (getD joined M 0 + 1))
 joined-one a b M joined n l =
-    record { grown = grown-one joined M l; counts = λ N i. rw (ne-eqb a b n) (set-more joined M N l) }
+    record { grown = grown-one joined M l; counts = λ N i. rw (ne-eqb a b n) (tallied-at joined M N l) }
 
 -- an edge that keeps its label begins a piece
 pub begun-one : (a b M : ℕ) (begun : List ℕ) → a ≡ b → M < length begun → PieceCounted a b M begun (set begun M (getD begun M 0 + 1))
 begun-one a b M begun e l =
-    record { grown = grown-one begun M l; counts = λ N n i. rw (eq-eqb a b e) (omega (arith, set-more begun M N l)) }
+    record { grown = grown-one begun M l; counts = λ N n i. rw (eq-eqb a b e) (omega (arith, tallied-at begun M N l)) }
 
 -- one that takes another does not, nor does no edge
 pub begun-none : (a b M : ℕ) (begun : List ℕ) → (M ≢ 0 → a ≢ b) → PieceCounted a b M begun begun

@@ -21,7 +21,7 @@ left-from-suc n t x = refl
 
 -- a drawing within the limits is short
 pub within-short : (D : List ℕ) (w t : ℕ) → Within D w t → length D ≤ 511 * 1023
-within-short D w t d = omega (arith, d .size, few-entries w t (d .wide) (d .high))
+within-short D w t d = omega (arith, d .size, few-entries w t (d .widthFits) (d .high))
 
 module _ (D : List ℕ) (t b q : ℕ) (C : ColumnAt D t b q) where
   -- the column lies within the drawing

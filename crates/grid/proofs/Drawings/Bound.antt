@@ -28,8 +28,8 @@ leaving D t x = drop (t + 1) (columnOf D t x)
 module _ (top bottom : List ℕ) (w t : ℕ) (D : List ℕ) (same : length top ≡ length bottom) (S : Solution top bottom w t D) where
   -- a pin's edge ends in its column
   pin-end : (N x : ℕ) → N ≢ 0 → HasPin top bottom N x → (y : ℕ) × Ends (verticalOf D t) (horizontalOf D t) N x x y
-  pin-end N x n (inl e) = (t, low (S .topPins x (omega (arith, S .wide, at-below top x N n e)) ∙ e))
-  pin-end N x n (inr e) = (0, low (S .bottomPins x (omega (arith, S .wide, at-below bottom x N n e)) ∙ e))
+  pin-end N x n (inl e) = (t, low (S .topPins x (omega (arith, S .covers, at-below top x N n e)) ∙ e))
+  pin-end N x n (inr e) = (0, low (S .bottomPins x (omega (arith, S .covers, at-below bottom x N n e)) ∙ e))
 
   -- a net that is open at the gap after a column has an entry that leaves it: else its pins on both sides were not linked
   crosses : (c N : ℕ) → N ≢ 0 → isOpen top bottom (suc c) N ≡ true → 0 < times N (leaving D t c)

@@ -229,10 +229,10 @@ module _ (top bottom : List ℕ) (t : ℕ) where
 
     -- THE DRAWING IS A SOLUTION
     pub solution : length top ≤ w → Solution top bottom w t D
-    solution wide =
+    solution covers =
         record {
           size = d .size;
-          wide = wide;
+          covers = covers;
           nets = λ i p. net i;
           bottomPins = λ x p. d .column x p .bottomPin;
           topPins = λ x p. d .column x p .topPin;

@@ -18,7 +18,7 @@ use Rattle.sweep.specs.declared.Action.{Action}
 use Rattle.sweep.specs.Tracks.{clear, verticals}
 use Rattle.sweep.specs.Drawing.{gap, drawn, rest, joining, remains, added, width, layout}
 use Rattle.sweep.specs.Rules.{act, noTrack}
-use Rattle.router.specs.Working.{tracksOf, Holds, Next, Remaining, withJoining}
+use Rattle.router.specs.Working.{tracksIn, Holds, Next, Remaining, withJoining}
 use Rattle.sweep.proofs.Drawing.Added as solved
 use Rattle.sweep.proofs.Tracks.Strands.{many-times}
 use Rattle.sweep.proofs.Tracks.Changed.{below-or}
@@ -31,18 +31,18 @@ use Rattle.router.proofs.Laws.Sweeps.{nonzero}
 
 -- the column that joins net v, written into its part of the layout
 pub joining-written : (t : ℕ) (d f low high number : List ℕ) (v w : ℕ) (l ys : List ℕ) (x : Action) {a′ f′ l′ h′ n′ : List ℕ} → 0 < v → v ≤ 256
-    → Holds t (tracksOf t d) d f low high number
+    → Holds t (tracksIn t d) d f low high number
     → x ≡ act (record { bottom = 0; low = 0; start = getD low v 0; middle = v; stop = getD high v 0; high = getD high v 0; top = 0 }) v 0 noTrack noTrack noTrack
-    → Holds t (clear v (tracksOf t d)) a′ f′ l′ h′ n′ → ys ≡ verticals t x ++ tracksOf t a′
-    → take (w * (2 * t + 1)) l ++ (ys ++ drop (w * (2 * t + 1) + (2 * t + 1) - w * (2 * t + 1)) (drop (w * (2 * t + 1)) l)) ≡ withJoining t (tracksOf t d) v w l
+    → Holds t (clear v (tracksIn t d)) a′ f′ l′ h′ n′ → ys ≡ verticals t x ++ tracksIn t a′
+    → take (w * (2 * t + 1)) l ++ (ys ++ drop (w * (2 * t + 1) + (2 * t + 1) - w * (2 * t + 1)) (drop (w * (2 * t + 1)) l)) ≡ withJoining t (tracksIn t d) v w l
 unfolding withJoining joining
 joining-written t d f low high number v w l ys x {a′} hv hb h ex u ey =
     let at : ℕ = w * (2 * t + 1) in
     let each : ℕ = 2 * t + 1 in
     let k : at + each - at ≡ each = add-sub-cancel-left at each in
     let dd : drop each (drop at l) ≡ drop (at + each) l = drop-drop each at l in
-    let jx : x ≡ joining (tracksOf t d) v = ex ∙ cc (h .lows .at v hv hb, h .highs .at v hv hb) in
-    let yy : ys ≡ verticals t (joining (tracksOf t d) v) ++ clear v (tracksOf t d) = cc (u .is) in
+    let jx : x ≡ joining (tracksIn t d) v = ex ∙ cc (h .lows .at v hv hb, h .highs .at v hv hb) in
+    let yy : ys ≡ verticals t (joining (tracksIn t d) v) ++ clear v (tracksIn t d) = cc (u .is) in
     cc
 
 -- ---- all nets
@@ -106,8 +106,8 @@ module _ {t n : ℕ} {g l₀ : List ℕ} where
         }
 
     -- one that has strands gets the next column
-    upto-join : {l′ a′ f′ low′ high′ number′ : List ℕ} → remains g (suc k) ≡ true → n * (2 * t + 1) ≤ length l₀ → Holds t (clear (suc k) (tracksOf t a)) a′ f′ low′ high′ number′
-        → l′ ≡ withJoining t (tracksOf t a) (suc k) w l → Upto t n g l₀ (suc k) (w + 1) l′ a′ f′ low′ high′ number′
+    upto-join : {l′ a′ f′ low′ high′ number′ : List ℕ} → remains g (suc k) ≡ true → n * (2 * t + 1) ≤ length l₀ → Holds t (clear (suc k) (tracksIn t a)) a′ f′ low′ high′ number′
+        → l′ ≡ withJoining t (tracksIn t a) (suc k) w l → Upto t n g l₀ (suc k) (w + 1) l′ a′ f′ low′ high′ number′
     unfolding added rest withJoining
     upto-join {l′} {a′} {f′} {low′} {high′} {number′} e hn h j =
         let z : bit (remains g (suc k)) ≡ 1 = ap bit e in
@@ -121,7 +121,7 @@ module _ {t n : ℕ} {g l₀ : List ℕ} where
         let dk : drop (w * (2 * t + 1)) l ≡ R = ap (drop (w * (2 * t + 1))) el ∙ drop-at (P ++ D) R (w * (2 * t + 1)) lenPD in
         let dr : drop (w * (2 * t + 1) + (2 * t + 1)) l ≡ Q =
         sym (drop-drop (2 * t + 1) (w * (2 * t + 1)) l) ∙ ap (drop (2 * t + 1)) dk ∙ drop-drop (2 * t + 1) (w * (2 * t + 1)) l₀ ∙ cc (suc-mul w (2 * t + 1), add-one w) in
-        let col : verticals t (joining (tracksOf t a) (suc k)) ++ clear (suc k) (tracksOf t a) ≡ C = ap (λ (y : List ℕ). verticals t (joining y (suc k)) ++ clear (suc k) y) (u .holds .is) in
+        let col : verticals t (joining (tracksIn t a) (suc k)) ++ clear (suc k) (tracksIn t a) ≡ C = ap (λ (y : List ℕ). verticals t (joining y (suc k)) ++ clear (suc k) y) (u .holds .is) in
         let now : l′ ≡ (P ++ D) ++ (C ++ Q) = cc in
         let lenC : length C ≡ 2 * t + 1 =
         length-append (verticals t (joining (rest g k) (suc k))) (rest g (suc k))
@@ -227,14 +227,14 @@ module _ {t n : ℕ} {g l₀ : List ℕ} (s : List ℕ) (rem : Remaining g s) {k
 
 -- net v, the next one, is joined
 upto-joined : (t n : ℕ) (g l₀ : List ℕ) (v w : ℕ) {l a f low high number l′ a′ f′ low′ high′ number′ : List ℕ} → (v ≡ 0 → ⊥) → Upto t n g l₀ (reached v) w l a f low high number → remains g v ≡ true
-    → n * (2 * t + 1) ≤ length l₀ → Holds t (clear v (tracksOf t a)) a′ f′ low′ high′ number′ → l′ ≡ withJoining t (tracksOf t a) v w l → Upto t n g l₀ v (w + 1) l′ a′ f′ low′ high′ number′
+    → n * (2 * t + 1) ≤ length l₀ → Holds t (clear v (tracksIn t a)) a′ f′ low′ high′ number′ → l′ ≡ withJoining t (tracksIn t a) v w l → Upto t n g l₀ v (w + 1) l′ a′ f′ low′ high′ number′
 upto-joined t n g l₀ zero w z u e hn h j = absurd (z refl)
 upto-joined t n g l₀ (suc k) w z u e hn h j = upto-join u e hn h j
 
 -- and the one after it found
 pub onward-joined : (t n : ℕ) (g l₀ s : List ℕ) → Remaining g s → ((v : ℕ) → OnTrack v g → v ≤ 256) → (v w r : ℕ) {l a f low high number l′ a′ f′ low′ high′ number′ : List ℕ}
     → (v ≡ 0 → ⊥) → v ≤ 256 → Upto t n g l₀ (reached v) w l a f low high number → remains g v ≡ true → n * (2 * t + 1) ≤ length l₀
-    → Holds t (clear v (tracksOf t a)) a′ f′ low′ high′ number′ → l′ ≡ withJoining t (tracksOf t a) v w l → Next s (v + 1) r → Onward t n g l₀ v r (w + 1) l′ a′ f′ low′ high′ number′
+    → Holds t (clear v (tracksIn t a)) a′ f′ low′ high′ number′ → l′ ≡ withJoining t (tracksIn t a) v w l → Next s (v + 1) r → Onward t n g l₀ v r (w + 1) l′ a′ f′ low′ high′ number′
 onward-joined t n g l₀ s rem small v w r z b u e hn h j nx =
     onward-at s rem (upto-joined t n g l₀ v w z u e hn h j) small (v + 1) r (omega arith) (λ p a b. omega arith) b nx
 
@@ -263,30 +263,30 @@ module _ (t : ℕ) (top bottom : List ℕ) where
 
   module _ {a f l h n : List ℕ} (w : Holds t (gap t top bottom (length top)) a f l h n) where
     -- the same by the arrays
-    same-width : length top + count (remains (tracksOf t a)) 256 ≡ width t top bottom
+    same-width : length top + count (remains (tracksIn t a)) 256 ≡ width t top bottom
     same-width = ap (λ (z : List ℕ). length top + count (remains z) 256) (w .is) ∙ width-is
 
     -- all columns fit
     pub fits-all : (m j k : ℕ) → k ≡ j → width t top bottom ≤ m → width t top bottom * (2 * t + 1) ≤ j
-        → (length top + count (remains (tracksOf t a)) 256 ≤ m) × ((length top + count (remains (tracksOf t a)) 256) * (2 * t + 1) ≤ k)
+        → (length top + count (remains (tracksIn t a)) 256 ≤ m) × ((length top + count (remains (tracksIn t a)) 256) * (2 * t + 1) ≤ k)
     fits-all m j k e p q = rw same-width (p, subst (λ (z : ℕ). width t top bottom * (2 * t + 1) ≤ z) (sym e) q)
 
     -- the columns swept and the columns added are the layout
     pub all-drawn : (l₀ l₁ l₂ : List ℕ) (r : ℕ) → l₁ ≡ drawn t top bottom (length top) ++ drop (length top * (2 * t + 1)) l₀ → length (drawn t top bottom (length top)) ≡ length top * (2 * t + 1)
-        → r ≡ length top + count (remains (tracksOf t a)) 256
-        → l₂ ≡ take (length top * (2 * t + 1)) l₁ ++ (added t (tracksOf t a) 256 ++ drop (r * (2 * t + 1)) l₁)
+        → r ≡ length top + count (remains (tracksIn t a)) 256
+        → l₂ ≡ take (length top * (2 * t + 1)) l₁ ++ (added t (tracksIn t a) 256 ++ drop (r * (2 * t + 1)) l₁)
         → (r ≡ width t top bottom) × (l₂ ≡ layout t top bottom ++ drop (r * (2 * t + 1)) l₀)
     unfolding layout
     all-drawn l₀ l₁ l₂ r e1 el er e2 =
         let D : List ℕ = drawn t top bottom (length top) in
-        let k : ℕ = count (remains (tracksOf t a)) 256 in
+        let k : ℕ = count (remains (tracksIn t a)) 256 in
         let R : List ℕ = drop (length top * (2 * t + 1)) l₀ in
         let M : List ℕ = added t (gap t top bottom (length top)) 256 in
         let tk : take (length top * (2 * t + 1)) l₁ ≡ D = ap (take (length top * (2 * t + 1))) e1 ∙ take-at D R (length top * (2 * t + 1)) el in
         let rk : r * (2 * t + 1) ≡ length D + k * (2 * t + 1) = cc (add-mul (length top) k (2 * t + 1)) in
         let dk : drop (r * (2 * t + 1)) l₁ ≡ drop (r * (2 * t + 1)) l₀ =
         cc (drop-append-add D R (k * (2 * t + 1)), drop-drop (k * (2 * t + 1)) (length top * (2 * t + 1)) l₀) in
-        let ad : added t (tracksOf t a) 256 ≡ M = cc (w .is) in
+        let ad : added t (tracksIn t a) 256 ≡ M = cc (w .is) in
         let now : l₂ ≡ D ++ (M ++ drop (r * (2 * t + 1)) l₀) = cc in
         (er ∙ same-width, now ∙ sym (append-assoc D M (drop (r * (2 * t + 1)) l₀)))
 

@@ -1,4 +1,4 @@
--- The arrays of the sweep, as its functions change them.
+-- The arrays of the router, as its functions change them.
 use Prim.Native.Nat.{ℕ, zero, suc, _+_, _%_, _≤_, _<_, max, min}
 use mathlib.Core.Path.{_≡_, refl, sym, ap, subst, _∙_}
 use mathlib.Core.Bool.{Bool, true, false}
@@ -12,10 +12,11 @@ use borrow.Author.Tests.{eq-eqb, ne-eqb, eqb-true, eqb-false}
 use lib.ListN.{length, take, drop, getD, set, replicate, length-take, length-drop, length-set}
 use lib.Seq.{getD-set-same, getD-set-other, getD-take, getD-drop, ext-getD, drop-set-add, take-set-lt, set-getD}
 use Rattle.grid.specs.Channel.{pick}
+use Rattle.grid.specs.Working.{ByNet}
 use Rattle.sweep.specs.Tracks.{strandsFrom, strands, first, last, lowest, highest, many, lesser, clear, give}
 use Rattle.sets.specs.Member.{member, Put}
 use Rattle.sweep.specs.Working.{FreeAt}
-use Rattle.router.specs.Working.{tracksOf, swept, Swept, NoneBetween, Frees, Indexes, Holds, blank}
+use Rattle.router.specs.Working.{tracksIn, swept, Swept, NoneBetween, Frees, Holds, blank}
 use Rattle.grid.proofs.Counting.{zeros}
 use Rattle.sweep.proofs.Tracks.After.{length-clear, clear-get}
 use Rattle.sweep.proofs.Tracks.Strands.{between-from, two-strands, many-times}
@@ -24,11 +25,11 @@ use Rattle.sweep.proofs.Tracks.Changed.{before-at-after, below-or, cleared-own,
 -- ---- the tracks of an array
 
 -- there are t tracks
-pub length-tracks : (t : ℕ) (d : List ℕ) → t ≤ 511 → length d ≡ 512 → length (tracksOf t d) ≡ t
+pub length-tracks : (t : ℕ) (d : List ℕ) → t ≤ 511 → length d ≡ 512 → length (tracksIn t d) ≡ t
 length-tracks t d h e = simp (length-take, length-drop) (omega arith)
 
 -- track j + 1 of the array
-pub tracks-at : (t : ℕ) (d : List ℕ) (j : ℕ) → j < t → getD (tracksOf t d) j 0 ≡ getD d (suc j) 0
+pub tracks-at : (t : ℕ) (d : List ℕ) (j : ℕ) → j < t → getD (tracksIn t d) j 0 ≡ getD d (suc j) 0
 tracks-at t d j h =
     let one : 1 + j ≡ suc j = omega arith in
     getD-take t (drop 1 d) j 0 h ∙ getD-drop 1 d j 0 ∙ ap (λ (k : ℕ). getD d k 0) one
@@ -105,32 +106,32 @@ swept-ends v a b d r s hv ab hb n er es =
         rw (z, ← e) w
 
 -- the tracks between a net's lowest and highest strand are enough
-swept-all : (v t : ℕ) (d s : List ℕ) → t ≤ 511 → length d ≡ 512 → Swept v (lowest v (tracksOf t d)) (highest v (tracksOf t d) + 1) d s → tracksOf t s ≡ clear v (tracksOf t d)
+swept-all : (v t : ℕ) (d s : List ℕ) → t ≤ 511 → length d ≡ 512 → Swept v (lowest v (tracksIn t d)) (highest v (tracksIn t d) + 1) d s → tracksIn t s ≡ clear v (tracksIn t d)
 unfolding lowest highest strands
 swept-all v t d s h e w =
-    ext-getD 0 (tracksOf t s) (clear v (tracksOf t d)) (ls ∙ sym lc) (λ j b. each j (subst (λ (k : ℕ). j < k) ls b))
+    ext-getD 0 (tracksIn t s) (clear v (tracksIn t d)) (ls ∙ sym lc) (λ j b. each j (subst (λ (k : ℕ). j < k) ls b))
   where
-    ls : length (tracksOf t s) ≡ t
+    ls : length (tracksIn t s) ≡ t
     ls = length-tracks t s h (w .sized ∙ e)
 
-    lc : length (clear v (tracksOf t d)) ≡ t
-    lc = length-clear v (tracksOf t d) ∙ length-tracks t d h e
+    lc : length (clear v (tracksIn t d)) ≡ t
+    lc = length-clear v (tracksIn t d) ∙ length-tracks t d h e
 
     other : (j : ℕ) → swept v (getD d (suc j) 0) ≡ getD d (suc j) 0 → getD s (suc j) 0 ≡ swept v (getD d (suc j) 0)
     other j q =
         ⊎-elim (λ b. w .outside (suc j) (inl b) ∙ sym q)
-        (λ o. ⊎-elim (λ b. w .inside (suc j) o b) (λ b. w .outside (suc j) (inr b) ∙ sym q) (below-or (suc j) (last (strandsFrom 1 v (tracksOf t d)) + 1)))
-        (below-or (suc j) (first (strandsFrom 1 v (tracksOf t d))))
+        (λ o. ⊎-elim (λ b. w .inside (suc j) o b) (λ b. w .outside (suc j) (inr b) ∙ sym q) (below-or (suc j) (last (strandsFrom 1 v (tracksIn t d)) + 1)))
+        (below-or (suc j) (first (strandsFrom 1 v (tracksIn t d))))
 
     case : (j : ℕ) → j < t → (p : Bool) → eqb (getD d (suc j) 0) v ≡ p → getD s (suc j) 0 ≡ swept v (getD d (suc j) 0)
     case j b true q =
-        let r = between-from 1 v (tracksOf t d) j (omega (arith, length-tracks t d h e)) (tracks-at t d j b ∙ eqb-true (getD d (suc j) 0) v q) in
+        let r = between-from 1 v (tracksIn t d) j (omega (arith, length-tracks t d h e)) (tracks-at t d j b ∙ eqb-true (getD d (suc j) 0) v q) in
         w .inside (suc j) (omega arith) (omega arith)
     case j b false q = other j (rw q)
 
-    each : (j : ℕ) → j < t → getD (tracksOf t s) j 0 ≡ getD (clear v (tracksOf t d)) j 0
+    each : (j : ℕ) → j < t → getD (tracksIn t s) j 0 ≡ getD (clear v (tracksIn t d)) j 0
     each j b =
-        tracks-at t s j b ∙ case j b (eqb (getD d (suc j) 0) v) refl ∙ ap (swept v) (sym (tracks-at t d j b)) ∙ sym (clear-get v (tracksOf t d) j)
+        tracks-at t s j b ∙ case j b (eqb (getD d (suc j) 0) v) refl ∙ ap (swept v) (sym (tracks-at t d j b)) ∙ sym (clear-get v (tracksIn t d) j)
 
 -- sweeping leaves numbers up to 256
 swept-nets : (v a y : ℕ) (d s : List ℕ) → Swept v a y d s → ((j : ℕ) → getD d j 0 ≤ 256) → (j : ℕ) → getD s j 0 ≤ 256
@@ -204,12 +205,12 @@ free-more t s r b h u =
 -- ---- the index
 
 -- the entry of net v is set, where no other net's strands change
-index-set : (g : List ℕ → ℕ) (xs tr tr′ : List ℕ) (v x : ℕ) → Indexes (λ u l. g (strands u l)) xs tr → v ≤ 256
-    → ((u : ℕ) → 0 < u → (u ≡ v → ⊥) → strands u tr′ ≡ strands u tr) → x ≡ g (strands v tr′) → Indexes (λ u l. g (strands u l)) (set xs v x) tr′
-index-set g xs tr tr′ v x w h keeps e = record { sized = length-set xs v x ∙ w .sized; at = each }
+index-set : (g : List ℕ → ℕ) (xs tr tr′ : List ℕ) (v x : ℕ) → ByNet (λ u. g (strands u tr)) xs → v ≤ 256
+    → ((u : ℕ) → 0 < u → (u ≡ v → ⊥) → strands u tr′ ≡ strands u tr) → x ≡ g (strands v tr′) → ByNet (λ u. g (strands u tr′)) (set xs v x)
+index-set g xs tr tr′ v x w h keeps e = record { size = length-set xs v x ∙ w .size; at = each }
   where
     here : getD (set xs v x) v 0 ≡ g (strands v tr′)
-    here = getD-set-same xs v x 0 (omega (arith, w .sized)) ∙ e
+    here = getD-set-same xs v x 0 (omega (arith, w .size)) ∙ e
 
     there : (u : ℕ) → 0 < u → u ≤ 256 → (u ≡ v → ⊥) → getD (set xs v x) u 0 ≡ g (strands u tr′)
     there u a b n = getD-set-other xs v u x 0 n ∙ w .at u a b ∙ ap g (sym (keeps u a n))
@@ -221,11 +222,11 @@ index-set g xs tr tr′ v x w h keeps e = record { sized = length-set xs v x ∙
         (before-at-after u v)
 
 -- the arrays once a net's strands are ended
-pub dropped : (t v : ℕ) (d f s g low high number : List ℕ) → 0 < v → v ≤ 256 → Holds t (tracksOf t d) d f low high number
-    → Swept v (getD low v 0) (getD high v 0 + 1) d s → Frees t s g → Holds t (clear v (tracksOf t d)) s g (set low v 0) (set high v 0) (set number v 0)
+pub dropped : (t v : ℕ) (d f s g low high number : List ℕ) → 0 < v → v ≤ 256 → Holds t (tracksIn t d) d f low high number
+    → Swept v (getD low v 0) (getD high v 0 + 1) d s → Frees t s g → Holds t (clear v (tracksIn t d)) s g (set low v 0) (set high v 0) (set number v 0)
 unfolding lowest highest many strands first last
 dropped t v d f s g low high number hv hb h w fr =
-    let tr : List ℕ = tracksOf t d in
+    let tr : List ℕ = tracksIn t d in
     let keeps : (u : ℕ) → 0 < u → (u ≡ v → ⊥) → strands u (clear v tr) ≡ strands u tr = λ u a n. cleared-other 1 u v tr a n in
     let none : strands v (clear v tr) ≡ [] = cleared-own 1 v tr hv in
     record {
@@ -240,50 +241,50 @@ dropped t v d f s g low high number hv hb h w fr =
     }
 
 -- a net with strands: they lie on the tracks
-pub low-high : (t v : ℕ) (d f low high number : List ℕ) → 0 < v → v ≤ 256 → Holds t (tracksOf t d) d f low high number → (getD number v 0 ≡ 0 → ⊥)
+pub low-high : (t v : ℕ) (d f low high number : List ℕ) → 0 < v → v ≤ 256 → Holds t (tracksIn t d) d f low high number → (getD number v 0 ≡ 0 → ⊥)
     → (0 < getD low v 0) × (getD low v 0 ≤ getD high v 0) × (getD high v 0 ≤ t)
 unfolding lowest highest many strands
 low-high t v d f low high number hv hb h n =
-    let tr : List ℕ = tracksOf t d in
+    let tr : List ℕ = tracksIn t d in
     rw (h .lows .at v hv hb, h .highs .at v hv hb)
     (some-low v tr (λ e. n (h .numbers .at v hv hb ∙ e)), first-last 1 v tr, omega (arith, last-at-most 0 v tr, length-tracks t d (h .fits) (h .sized), h .fits))
 
 -- at most two strands: none lies between the lowest and the highest
-pub none-between : (t v : ℕ) (d f low high number : List ℕ) → 0 < v → v ≤ 256 → Holds t (tracksOf t d) d f low high number → getD high v 0 ≤ t
+pub none-between : (t v : ℕ) (d f low high number : List ℕ) → 0 < v → v ≤ 256 → Holds t (tracksIn t d) d f low high number → getD high v 0 ≤ t
     → getD number v 0 ≤ 2 → NoneBetween v (getD low v 0) (getD high v 0) d
 none-between t v d f low high number hv hb h ht n zero l m e = absurd (omega arith)
 none-between t v d f low high number hv hb h ht n (suc j) l m e =
-    let tr : List ℕ = tracksOf t d in
+    let tr : List ℕ = tracksIn t d in
     let k = two-strands v tr (omega (arith, many-times v tr, h .numbers .at v hv hb)) j (omega (arith, length-tracks t d (h .fits) (h .sized))) (tracks-at t d j (omega arith) ∙ e) in
     ⊎-elim (λ x. absurd (omega (arith, h .lows .at v hv hb))) (λ x. absurd (omega (arith, h .highs .at v hv hb))) k
 
 -- a net has at most 511 strands
-pub number-most : (t v : ℕ) (d f low high number : List ℕ) → 0 < v → v ≤ 256 → Holds t (tracksOf t d) d f low high number → getD number v 0 ≤ 511
+pub number-most : (t v : ℕ) (d f low high number : List ℕ) → 0 < v → v ≤ 256 → Holds t (tracksIn t d) d f low high number → getD number v 0 ≤ 511
 unfolding many strands
 number-most t v d f low high number hv hb h =
-    let tr : List ℕ = tracksOf t d in
+    let tr : List ℕ = tracksIn t d in
     rw (h .numbers .at v hv hb) (omega (arith, number-at-most 1 v tr, length-tracks t d (h .fits) (h .sized), h .fits))
 
 -- a net without strands has none to end
-pub nothing-dropped : (t v : ℕ) (d f low high number : List ℕ) → 0 < v → v ≤ 256 → Holds t (tracksOf t d) d f low high number → getD number v 0 ≡ 0
-    → Holds t (clear v (tracksOf t d)) d f low high number
+pub nothing-dropped : (t v : ℕ) (d f low high number : List ℕ) → 0 < v → v ≤ 256 → Holds t (tracksIn t d) d f low high number → getD number v 0 ≡ 0
+    → Holds t (clear v (tracksIn t d)) d f low high number
 nothing-dropped t v d f low high number hv hb h e =
-    let tr : List ℕ = tracksOf t d in
+    let tr : List ℕ = tracksIn t d in
     rw (clear-idle v tr (inr (sym (many-times v tr) ∙ sym (h .numbers .at v hv hb) ∙ e))) h
 
 -- a free track is one of the tracks
-pub free-below : (k t : ℕ) (d : List ℕ) → t ≤ 511 → length d ≡ 512 → FreeAt k (tracksOf t d) → k ≤ t
+pub free-below : (k t : ℕ) (d : List ℕ) → t ≤ 511 → length d ≡ 512 → FreeAt k (tracksIn t d) → k ≤ t
 free-below zero t d h e o = omega arith
 free-below (suc y) t d h e o = omega (arith, length-tracks t d h e, o .0)
 
 -- the arrays once a net is given a track
-pub strand-added : (t k v : ℕ) (d f g low high number : List ℕ) (a b c : ℕ) → (k ≡ 0 → ⊥) → (v ≡ 0 → ⊥) → v ≤ 256 → FreeAt k (tracksOf t d) → Holds t (tracksOf t d) d f low high number
+pub strand-added : (t k v : ℕ) (d f g low high number : List ℕ) (a b c : ℕ) → (k ≡ 0 → ⊥) → (v ≡ 0 → ⊥) → v ≤ 256 → FreeAt k (tracksIn t d) → Holds t (tracksIn t d) d f low high number
     → Put f (k % 512) false g → a ≡ lesser (getD low v 0) k → b ≡ max (getD high v 0) k → c ≡ getD number v 0 + 1
-    → Holds t (give k v (tracksOf t d)) (set d k v) g (set low v a) (set high v b) (set number v c)
+    → Holds t (give k v (tracksIn t d)) (set d k v) g (set low v a) (set high v b) (set number v c)
 unfolding lowest highest many strands give
 strand-added t zero v d f g low high number a b c hk hn hb o h pg ea eb ec = absurd (hk refl)
 strand-added t (suc y) v d f g low high number a b c hk hn hb o h pg ea eb ec =
-    let tr : List ℕ = tracksOf t d in
+    let tr : List ℕ = tracksIn t d in
     let hv : 0 < v = omega arith in
     let yt : y < t = omega (arith, length-tracks t d (h .fits) (h .sized), o .0) in
     let keeps : (u : ℕ) → 0 < u → (u ≡ v → ⊥) → strands u (set tr y v) ≡ strands u tr = λ u l n. given-other 1 u v tr y l n (o .1) in
@@ -333,13 +334,13 @@ lesser-both (suc x) (suc y) h k = refl
 -- ---- one step after another
 
 -- arrays that hold tr hold their own tracks
-pub own : {t : ℕ} {tr a f l h n : List ℕ} → Holds t tr a f l h n → Holds t (tracksOf t a) a f l h n
+pub own : {t : ℕ} {tr a f l h n : List ℕ} → Holds t tr a f l h n → Holds t (tracksIn t a) a f l h n
 own {t} {tr} {a} {f} {l} {h} {n} w = subst (λ (z : List ℕ). Holds t z a f l h n) (sym (w .is)) w
 
 -- a step from the arrays' tracks is one from tr
-pub after-step : (F : List ℕ → List ℕ) {t : ℕ} {tr a f l h n a′ f′ l′ h′ n′ : List ℕ} → Holds t tr a f l h n → Holds t (F (tracksOf t a)) a′ f′ l′ h′ n′ → Holds t (F tr) a′ f′ l′ h′ n′
+pub after-step : (F : List ℕ → List ℕ) {t : ℕ} {tr a f l h n a′ f′ l′ h′ n′ : List ℕ} → Holds t tr a f l h n → Holds t (F (tracksIn t a)) a′ f′ l′ h′ n′ → Holds t (F tr) a′ f′ l′ h′ n′
 after-step F {t} {tr} {a} {f} {l} {h} {n} {a′} {f′} {l′} {h′} {n′} w u = subst (λ (z : List ℕ). Holds t (F z) a′ f′ l′ h′ n′) (w .is) u
 
 -- a track free on tr is free in the array
-pub free-held : (k : ℕ) {t : ℕ} {tr a f l h n : List ℕ} → Holds t tr a f l h n → FreeAt k tr → FreeAt k (tracksOf t a)
+pub free-held : (k : ℕ) {t : ℕ} {tr a f l h n : List ℕ} → Holds t tr a f l h n → FreeAt k tr → FreeAt k (tracksIn t a)
 free-held k w o = subst (FreeAt k) (sym (w .is)) o

@@ -11,11 +11,12 @@ use lib.ListN.{length, take, getD, replicate, length-replicate, List·getD-eq-de
 use Rattle.grid.proofs.Rows.{no-right}
 use Rattle.grid.proofs.Tests.{and-none}
 use Rattle.grid.specs.declared.Family.{Family}
+use Rattle.grid.specs.Working.{ByNet}
 use Rattle.sets.specs.Member.{member}
 use Rattle.sweep.specs.Tracks.{strandsFrom, strands, first, last, lowest, highest, many}
 use Rattle.sweep.specs.Drawing
 use Rattle.sweep.specs.Drawing.{gap, remains}
-use Rattle.router.specs.Working.{tracksOf, Frees, Indexes, Holds, Spans, Marked, AtGap, Remaining, extendedBy, wideBy, blank, noNets}
+use Rattle.router.specs.Working.{tracksIn, Frees, Holds, Spans, Marked, AtGap, Remaining, extendedBy, wideBy, blank, noNets}
 use Rattle.sweep.proofs.Tracks.Changed.{below-or}
 use Rattle.grid.proofs.Counting.{zeros}
 use Rattle.router.proofs.Laws.Sweeps.{on-small}
@@ -34,9 +35,9 @@ no-strands y v zero h = refl
 no-strands y v (suc n) h = rw (ne-eqb 0 v (λ e. omega arith)) (no-strands (suc y) v n h)
 
 -- zeros, where the tracks hold nothing and so g is 0
-none-indexed : (g : List ℕ → ℕ) → g [] ≡ 0 → (t n : ℕ) → n ≡ 257 → Indexes (λ v tr. g (strands v tr)) (replicate n 0) (replicate t 0)
+none-indexed : (g : List ℕ → ℕ) → g [] ≡ 0 → (t n : ℕ) → n ≡ 257 → ByNet (λ v. g (strands v (replicate t 0))) (replicate n 0)
 unfolding strands
-none-indexed g e t n en = record { sized = length-replicate {A = ℕ} n 0 ∙ en; at = λ v h b. zeros n v ∙ sym (ap g (no-strands 1 v t h) ∙ e) }
+none-indexed g e t n en = record { size = length-replicate {A = ℕ} n 0 ∙ en; at = λ v h b. zeros n v ∙ sym (ap g (no-strands 1 v t h) ∙ e) }
 
 -- blank arrays hold gap 0
 blank-holds : (top bottom : List ℕ) (t : ℕ) (a f l h n : List ℕ) → t ≤ 511 → a ≡ blank → Frees t blank f → l ≡ noNets → h ≡ noNets → n ≡ noNets
@@ -77,22 +78,22 @@ unfolding Drawing.later
 none-later top bottom v e = rw (no-right top bottom v (omega arith)) (and-none (not (eqb v 0)) false refl)
 
 -- and the extended nets are those with strands
-pub all-remain : (top bottom first last : List ℕ) {t : ℕ} {a f l h n : List ℕ} (s w : List ℕ) (fam : Family) → Spans top bottom first last → length bottom ≡ length top → Holds t (tracksOf t a) a f l h n
-    → Marked last n (length top) s w fam → Remaining (tracksOf t a) s
+pub all-remain : (top bottom first last : List ℕ) {t : ℕ} {a f l h n : List ℕ} (s w : List ℕ) (fam : Family) → Spans top bottom first last → length bottom ≡ length top → Holds t (tracksIn t a) a f l h n
+    → Marked last n (length top) s w fam → Remaining (tracksIn t a) s
 unfolding extendedBy remains
 all-remain top bottom first last {t} {a} {f} {l} {h} {n} s w fam sp e hh so v =
     so v .extended ∙ ⊎-elim (λ (b : v < 257). small v (omega arith)) (λ (b : 257 ≤ v). ap (λ (y : Bool). not (eqb v 0) && y) (large v b)) (below-or v 257)
   where
-    small : (v : ℕ) → v ≤ 256 → (not (eqb v 0) && (not (ltb (length top) (getD last v 0)) && ltb 0 (getD n v 0))) ≡ (not (eqb v 0) && ltb 0 (many v (tracksOf t a)))
+    small : (v : ℕ) → v ≤ 256 → (not (eqb v 0) && (not (ltb (length top) (getD last v 0)) && ltb 0 (getD n v 0))) ≡ (not (eqb v 0) && ltb 0 (many v (tracksIn t a)))
     small zero b = refl
     small (suc v) b =
         let z : ltb (length top) (getD last (suc v) 0) ≡ false = sym (sp .after (length top) (suc v) b) ∙ none-later top bottom (suc v) e in
         rw (z, hh .numbers .at (suc v) (omega arith) b) refl
 
-    large : (v : ℕ) → 257 ≤ v → (not (ltb (length top) (getD last v 0)) && ltb 0 (getD n v 0)) ≡ ltb 0 (many v (tracksOf t a))
+    large : (v : ℕ) → 257 ≤ v → (not (ltb (length top) (getD last v 0)) && ltb 0 (getD n v 0)) ≡ ltb 0 (many v (tracksIn t a))
     large v b =
-        let z : getD n v 0 ≡ 0 = List·getD-eq-default n 0 (omega (arith, hh .numbers .sized)) in
-        let m : many v (tracksOf t a) ≡ 0 =
-        ⊎-elim (λ (q : 0 < many v (tracksOf t a)). absurd (omega (arith, on-small hh v (many-on v (tracksOf t a) q)))) (λ (q : many v (tracksOf t a) ≤ 0). omega arith)
-        (below-or 0 (many v (tracksOf t a))) in
+        let z : getD n v 0 ≡ 0 = List·getD-eq-default n 0 (omega (arith, hh .numbers .size)) in
+        let m : many v (tracksIn t a) ≡ 0 =
+        ⊎-elim (λ (q : 0 < many v (tracksIn t a)). absurd (omega (arith, on-small hh v (many-on v (tracksIn t a) q)))) (λ (q : many v (tracksIn t a) ≤ 0). omega arith)
+        (below-or 0 (many v (tracksIn t a))) in
         rw (z, m) (and-none (not (ltb (length top) (getD last v 0))) false refl)

@@ -2,9 +2,9 @@
 use Prim.Native.Nat.{ℕ, zero, suc, _+_, _-_, _*_, _/_, _≤_, _<_}
 use mathlib.Core.Path.{_≡_, refl, sym, ap, subst, _∙_}
 use mathlib.Core.Bool.{not, _&&_}
-use mathlib.Core.Logic.{_≢_, ⊎-elim}
+use mathlib.Core.Logic.{_≢_}
 use mathlib.Core.List.{List, _++_}
-use native.Mathlib.Nat.{mul-le-mul-right}
+use Rattle.grid.proofs.Views.{product-le}
 use native.Mathlib.Omega.{arith}
 use lib.Dec.{eqb, ltb, leb}
 use lib.ListN.{length, drop, getD}
@@ -16,7 +16,7 @@ use Rattle.grid.specs.Answers.{refusedWithin}
 use Rattle.grid.proofs.Tests.{ne-eqb, le-ltb}
 use Rattle.grid.proofs.Answers.{accepted, accepted-new}
 use Rattle.grid.proofs.Rows.{RowsFit, rows-fit, rows-short}
-use Rattle.grid.proofs.Counting.{holds-times, at-below}
+use Rattle.grid.proofs.Counting.{small-in}
 use Rattle.grid.proofs.Nets.{begun, goes-on}
 use Rattle.grid.proofs.OpenNets.{tracks-small}
 use Rattle.grid.proofs.Tables.{table-at, table-none}
@@ -33,7 +33,6 @@ use Rattle.router.specs.Working.{Spans, Ready, EachFits}
 use Rattle.sweep.proofs.Solved.{tracks-enough}
 use Rattle.router.proofs.Applied.{column-fits, layout-length}
 use Rattle.router.proofs.Answered.{need-promise, answer-promise, passes, refuses, too-short, written-refused, written-drawn, written-solution}
-use Rattle.sweep.proofs.Tracks.Changed.{below-or}
 
 -- ---- what the sweep goes by
 
@@ -55,12 +54,6 @@ module _ (top bottom : List ℕ) (ok : rowsRefused top bottom 256 ≡ 0) where
       behind c (suc v) b =
           unfold Drawing.later in
           rw (ne-eqb (suc v) 0 (λ e. omega arith), table-at (lastColumn top bottom) (suc v) (omega arith) b) (goes-on top bottom (suc v) (λ e. omega arith) (fit .same) c)
-
-  -- a row's numbers are up to 256
-  small-in : (l : List ℕ) → ((v : ℕ) → 256 < v → times v l ≡ 0) → (j : ℕ) → getD l j 0 ≤ 256
-  small-in l h j =
-      ⊎-elim (λ (q : 256 < getD l j 0). absurd (omega (arith, h (getD l j 0) q, holds-times l j (getD l j 0) (at-below l j (getD l j 0) (omega arith) refl) refl)))
-      (λ (q : getD l j 0 ≤ 256). q) (below-or 256 (getD l j 0))
 
   -- what the sweep goes by, from the figures that the row check found
   pub ready : {t : ℕ} {p : Family} {first last : List ℕ} → t ≡ tracks top bottom → p ≡ family top bottom → first ≡ table (firstColumn top bottom) → last ≡ table (lastColumn top bottom)
@@ -117,7 +110,7 @@ module _ (top bottom : List ℕ) (most : ℕ) where
   -- a routing call that is let through draws a solution
   solves : (old : List ℕ) → refused top bottom most (length old) ≡ 0 → Solves top bottom (written top bottom most old) (figures top bottom)
   unfolding figures tracks
-  solves old q = record { solution = written-solution top bottom most old q; dense = refl; two = λ e. rw e refl; many = λ e. rw e refl }
+  solves old q = record { solution = written-solution top bottom most old q; dense = refl; twoPin = λ e. rw e refl; manyPin = λ e. rw e refl }
 
   -- all that a routing call promises, by its answer and its slice
   pub promised : (old new : List ℕ) (r : Routed) → r ≡ answer top bottom most (length old) → new ≡ written top bottom most old
@@ -173,6 +166,4 @@ length-by top bottom n t m en et em = cc
 
 -- no slice length passes 511 columns of 1023 entries
 pub area : (n t : ℕ) → n ≤ 256 → t ≤ 511 → (n + t / 2) * (2 * t + 1) ≤ 522753
-area n t h k =
-    let b : n + t / 2 ≤ 511 = omega arith in
-    omega (arith, mul-le-mul-right (2 * t + 1) b)
+area n t h k = product-le (n + t / 2) (2 * t + 1) (omega arith) (omega arith)

@@ -1,23 +1,19 @@
 -- The lowest net of a set is the lowest net on the tracks that passes the set's test.
 use Prim.Native.Nat.{ℕ, zero, suc, _%_, _≤_, _<_}
 use mathlib.Core.Path.{_≡_, refl, sym, ap, subst, _∙_}
-use mathlib.Core.Bool.{Bool, true, false}
+use mathlib.Core.Bool.{Bool, true}
 use mathlib.Core.List.{List, [], _∷_}
 use mathlib.Core.Logic.{⊎-elim}
 use native.Mathlib.Omega.{arith}
-use lib.Dec.{T}
 use lib.ListN.{length, getD}
 use Rattle.grid.specs.Channel.{pick}
 use Rattle.sets.specs.Member.{member, Lowest}
 use Rattle.sweep.specs.Tracks.{lesser, lowestNet, many}
 use Rattle.router.specs.Working.{Next}
-use Rattle.grid.proofs.Counting.{holds-times}
+use Rattle.grid.proofs.Counting.{holds-times, times-at}
+use Rattle.grid.proofs.Tests.{not-both}
 use Rattle.sweep.proofs.Tracks.Changed.{below-or}
-use Rattle.sweep.proofs.Tracks.Strands.{lowest-is, many-times, a-net}
-
--- a test does not hold and fail
-pub not-both : {b : Bool} → b ≡ true → b ≡ false → ⊥
-not-both p q = subst T (sym p ∙ q) tt
+use Rattle.sweep.proofs.Tracks.Strands.{many-times, a-net}
 
 -- the lesser of two is at most each that is a net
 lesser-left : (x y : ℕ) → 0 < x → (0 < lesser x y) × (lesser x y ≤ x)
@@ -38,7 +34,7 @@ OnTrack v l = (j : ℕ) × (j < length l) × (getD l j 0 ≡ v)
 
 -- a net with strands stands on a track
 pub many-on : (v : ℕ) (tr : List ℕ) → 0 < many v tr → OnTrack v tr
-many-on v tr h = let s = lowest-is v tr (omega (arith, many-times v tr)) in (s .index, s .inside, s .holds)
+many-on v tr h = times-at v tr (omega (arith, many-times v tr))
 
 -- and the other way round
 pub on-many : (v : ℕ) (tr : List ℕ) → OnTrack v tr → 0 < many v tr
@@ -49,7 +45,7 @@ net-found : (p : ℕ → Bool) (l : List ℕ) → 0 < lowestNet p l → (p (lowe
 net-found p l n =
     let v : ℕ = lowestNet p l in
     let w = a-net p l v (λ e. omega arith) refl in
-    (w .0, many-on v l (omega (arith, w .1, many-times v l)))
+    (w .0, times-at v l (w .1))
 
 -- and is at most each net on a track that passes it
 net-least : (p : ℕ → Bool) (l : List ℕ) (j : ℕ) → j < length l → p (getD l j 0) ≡ true → 0 < getD l j 0 → (0 < lowestNet p l) × (lowestNet p l ≤ getD l j 0)

@@ -17,7 +17,7 @@ use Rattle.sweep.specs.declared.Action.{Action}
 use Rattle.sweep.specs.Tracks.{after}
 use Rattle.sweep.specs.Drawing
 use Rattle.sweep.specs.Drawing.{action}
-use Rattle.router.specs.Working.{tracksOf, Holds, RowsAndLasts, Fitting, MarkedAt, Marked, MarksThree, Keeps, extendedBy, wideBy}
+use Rattle.router.specs.Working.{tracksIn, Holds, RowsAndLasts, Fitting, MarkedAt, Marked, MarksThree, Keeps, extendedBy, wideBy}
 use Rattle.sweep.proofs.Tracks.Changed.{below-or}
 use Rattle.sweep.proofs.Columns.Others.{others-stay}
 
@@ -39,7 +39,7 @@ zero-marked last n n′ c c′ s w fam r = record { extended = r .extended; wide
 module _ (top bottom last : List ℕ) (c : ℕ) (x : Action) {t : ℕ} {a f l h n a′ f′ l′ h′ n′ s w : List ℕ} {fam : Family} where
   -- a net that the column does not touch is still marked as it is
   marked-stays : RowsAndLasts top bottom last → c < length top
-      → Holds t (tracksOf t a) a f l h n → x ≡ action t top bottom c (tracksOf t a) → Fitting top bottom c x (tracksOf t a) → Holds t (after x (tracksOf t a)) a′ f′ l′ h′ n′
+      → Holds t (tracksIn t a) a f l h n → x ≡ action t top bottom c (tracksIn t a) → Fitting top bottom c x (tracksIn t a) → Holds t (after x (tracksIn t a)) a′ f′ l′ h′ n′
       → (j : ℕ) → (j ≡ x .ended → ⊥) → (j ≡ getD top c 0 → ⊥) → (j ≡ getD bottom c 0 → ⊥) → MarkedAt last n c s w fam j → MarkedAt last n′ (c + 1) s w fam j
   unfolding extendedBy wideBy
   marked-stays sp cl H ex ax H′ zero d p q r = zero-marked last n n′ c (c + 1) s w fam r
@@ -50,7 +50,7 @@ module _ (top bottom last : List ℕ) (c : ℕ) (x : Action) {t : ℕ} {a f l h 
           let k : suc j ≤ 256 = omega arith in
           let z : 0 < suc j = omega arith in
           let m : getD n′ (suc j) 0 ≡ getD n (suc j) 0 =
-          H′ .numbers .at (suc j) z k ∙ others-stay x (getD top c 0) (getD bottom c 0) (suc j) (tracksOf t a) (ax .applies) (ax .plain) z d p q ∙ sym (H .numbers .at (suc j) z k) in
+          H′ .numbers .at (suc j) z k ∙ others-stay x (getD top c 0) (getD bottom c 0) (suc j) (tracksIn t a) (ax .applies) (ax .plain) z d p q ∙ sym (H .numbers .at (suc j) z k) in
           let e : ltb (c + 1) (getD last (suc j) 0) ≡ ltb c (getD last (suc j) 0) =
           ap (λ (y : ℕ). ltb y (getD last (suc j) 0)) (add-one c) ∙ sym (sp .lasts (suc c) (suc j) k)
           ∙ sym (later-next top bottom c (suc j) cl (omega (arith, sp .rows)) p q) ∙ sp .lasts c (suc j) k in
@@ -58,8 +58,8 @@ module _ (top bottom last : List ℕ) (c : ℕ) (x : Action) {t : ℕ} {a f l h 
 
       large : 257 ≤ suc j → MarkedAt last n′ (c + 1) s w fam (suc j)
       large b =
-          let m : getD n′ (suc j) 0 ≡ 0 = List·getD-eq-default n′ 0 (omega (arith, H′ .numbers .sized)) in
-          let o : getD n (suc j) 0 ≡ 0 = List·getD-eq-default n 0 (omega (arith, H .numbers .sized)) in
+          let m : getD n′ (suc j) 0 ≡ 0 = List·getD-eq-default n′ 0 (omega (arith, H′ .numbers .size)) in
+          let o : getD n (suc j) 0 ≡ 0 = List·getD-eq-default n 0 (omega (arith, H .numbers .size)) in
           record {
             extended = r .extended ∙ rw (o, m) (ap (λ (y : Bool). not (eqb (suc j) 0) && y) (and-none (not (ltb c (getD last (suc j) 0))) false refl ∙ sym (and-none (not (ltb (c + 1) (getD last (suc j) 0))) false refl)));
             wide = λ g. r .wide g ∙ rw (o, m) (ap (λ (y : Bool). not (eqb (suc j) 0) && y) (and-none (ltb c (getD last (suc j) 0)) false refl ∙ sym (and-none (ltb (c + 1) (getD last (suc j) 0)) false refl)));
@@ -67,7 +67,7 @@ module _ (top bottom last : List ℕ) (c : ℕ) (x : Action) {t : ℕ} {a f l h 
 
   -- each net is one of the three that the column marks, or it is marked already
   marked-next : RowsAndLasts top bottom last → c < length top
-      → Holds t (tracksOf t a) a f l h n → x ≡ action t top bottom c (tracksOf t a) → Fitting top bottom c x (tracksOf t a) → Holds t (after x (tracksOf t a)) a′ f′ l′ h′ n′
+      → Holds t (tracksIn t a) a f l h n → x ≡ action t top bottom c (tracksIn t a) → Fitting top bottom c x (tracksIn t a) → Holds t (after x (tracksIn t a)) a′ f′ l′ h′ n′
       → Marked last n c s w fam → (j : ℕ) → (j ≡ x .ended) ⊎ ((j ≡ getD top c 0) ⊎ ((j ≡ getD bottom c 0) ⊎ MarkedAt last n′ (c + 1) s w fam j))
   marked-next sp cl H ex ax H′ so j = go (eqb j (x .ended)) (eqb j (getD top c 0)) (eqb j (getD bottom c 0)) refl refl refl
     where
@@ -81,9 +81,9 @@ module _ (top bottom last : List ℕ) (c : ℕ) (x : Action) {t : ℕ} {a f l h 
 
   -- the arrays and sets after the column, k its number, once its three nets are marked
   pub settled : (k : ℕ) {s′ w′ : List ℕ} → k ≡ c + 1 → RowsAndLasts top bottom last → c < length top
-      → Keeps last t fam c (tracksOf t a) a f l h n s w → x ≡ action t top bottom c (tracksOf t a) → Fitting top bottom c x (tracksOf t a)
-      → Holds t (after x (tracksOf t a)) a′ f′ l′ h′ n′ → MarksThree last n′ k fam (x .ended) (getD top c 0) (getD bottom c 0) s w s′ w′
-      → Keeps last t fam (c + 1) (after x (tracksOf t a)) a′ f′ l′ h′ n′ s′ w′
+      → Keeps last t fam c (tracksIn t a) a f l h n s w → x ≡ action t top bottom c (tracksIn t a) → Fitting top bottom c x (tracksIn t a)
+      → Holds t (after x (tracksIn t a)) a′ f′ l′ h′ n′ → MarksThree last n′ k fam (x .ended) (getD top c 0) (getD bottom c 0) s w s′ w′
+      → Keeps last t fam (c + 1) (after x (tracksIn t a)) a′ f′ l′ h′ n′ s′ w′
   settled k {s′} {w′} ek sp cl K ex ax H′ E =
       record {
         holds = H′;

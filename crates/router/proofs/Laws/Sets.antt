@@ -17,9 +17,9 @@ use Rattle.sets.specs.Member.{member, Put, Lowest}
 use Rattle.sweep.specs.declared.Free.{Free}
 use Rattle.sweep.specs.Tracks.{strandsFrom, strands, first, lowest, second}
 use Rattle.sweep.specs.Drawing.{freeOf}
-use Rattle.router.specs.Working.{tracksOf, Frees, narrow, MarkedAt, extendedBy, wideBy}
+use Rattle.router.specs.Working.{tracksIn, Frees, narrow, MarkedAt, extendedBy, wideBy}
 use Rattle.sweep.proofs.Tracks.Changed.{below-or}
-use Rattle.router.proofs.Laws.Lowest.{not-both}
+use Rattle.grid.proofs.Tests.{not-both}
 use Rattle.router.proofs.Laws.Arrays.{length-tracks, tracks-at}
 
 -- ---- the lowest members are the lowest free tracks
@@ -51,43 +51,43 @@ inside (x ∷ xs) (suc i) h = inside xs i (omega arith)
 
 module _ (t : ℕ) (a s : List ℕ) (l : t ≤ 511) (z : length a ≡ 512) (f : Frees t a s) where
   -- track i + 1 is a member if it is free
-  each : (i : ℕ) → member s (suc i) ≡ eqb (getD (tracksOf t a) i 1) 0
+  each : (i : ℕ) → member s (suc i) ≡ eqb (getD (tracksIn t a) i 1) 0
   each i = ⊎-elim within-t past-t (below-or i t)
     where
-      within-t : i < t → member s (suc i) ≡ eqb (getD (tracksOf t a) i 1) 0
+      within-t : i < t → member s (suc i) ≡ eqb (getD (tracksIn t a) i 1) 0
       within-t h =
-          f .each (suc i) (omega arith) h ∙ ap (λ (x : ℕ). eqb x 0) (sym (inside (tracksOf t a) i (omega (arith, length-tracks t a l z)) ∙ tracks-at t a i h))
+          f .each (suc i) (omega arith) h ∙ ap (λ (x : ℕ). eqb x 0) (sym (inside (tracksIn t a) i (omega (arith, length-tracks t a l z)) ∙ tracks-at t a i h))
 
-      past-t : t ≤ i → member s (suc i) ≡ eqb (getD (tracksOf t a) i 1) 0
-      past-t h = f .past (suc i) (omega arith) ∙ ap (λ (x : ℕ). eqb x 0) (sym (List·getD-eq-default (tracksOf t a) 1 (omega (arith, length-tracks t a l z))))
+      past-t : t ≤ i → member s (suc i) ≡ eqb (getD (tracksIn t a) i 1) 0
+      past-t h = f .past (suc i) (omega arith) ∙ ap (λ (x : ℕ). eqb x 0) (sym (List·getD-eq-default (tracksIn t a) 1 (omega (arith, length-tracks t a l z))))
 
   -- from track k up
-  each-drop : (k i : ℕ) → eqb (getD (drop k (tracksOf t a)) i 1) 0 ≡ member s (suc (k + i))
-  each-drop k i = ap (λ (x : ℕ). eqb x 0) (getD-drop k (tracksOf t a) i 1) ∙ sym (each (k + i))
+  each-drop : (k i : ℕ) → eqb (getD (drop k (tracksIn t a)) i 1) 0 ≡ member s (suc (k + i))
+  each-drop k i = ap (λ (x : ℕ). eqb x 0) (getD-drop k (tracksIn t a) i 1) ∙ sym (each (k + i))
 
   -- the lowest member above k, q: the free tracks above track k
   above-some : (k q : ℕ) → Lowest s (k + 1) q → q < 512
-      → strandsFrom (suc k) 0 (drop k (tracksOf t a)) ≡ q ∷ strandsFrom (suc q) 0 (drop (suc (q - suc k)) (drop k (tracksOf t a)))
+      → strandsFrom (suc k) 0 (drop k (tracksIn t a)) ≡ q ∷ strandsFrom (suc q) 0 (drop (suc (q - suc k)) (drop k (tracksIn t a)))
   above-some k q o h =
-      next-at (drop k (tracksOf t a)) (suc k) (q - suc k)
+      next-at (drop k (tracksIn t a)) (suc k) (q - suc k)
       (each-drop k (q - suc k) ∙ ap (member s) (omega (arith, o .low)) ∙ o .found h)
       (λ j p. each-drop k j ∙ o .below (suc (k + j)) (omega arith) (omega (arith, o .low)))
-      ∙ ap (λ (y : ℕ). y ∷ strandsFrom (suc y) 0 (drop (suc (q - suc k)) (drop k (tracksOf t a)))) (omega (arith, o .low))
+      ∙ ap (λ (y : ℕ). y ∷ strandsFrom (suc y) 0 (drop (suc (q - suc k)) (drop k (tracksIn t a)))) (omega (arith, o .low))
 
   -- none above track k
-  above-none : (k : ℕ) → Lowest s (k + 1) 512 → strandsFrom (suc k) 0 (drop k (tracksOf t a)) ≡ []
-  above-none k o = next-none (drop k (tracksOf t a)) (suc k) (λ j. go j (decLt (suc (k + j)) 512))
+  above-none : (k : ℕ) → Lowest s (k + 1) 512 → strandsFrom (suc k) 0 (drop k (tracksIn t a)) ≡ []
+  above-none k o = next-none (drop k (tracksIn t a)) (suc k) (λ j. go j (decLt (suc (k + j)) 512))
     where
-      go : (j : ℕ) → Dec (suc (k + j) < 512) → eqb (getD (drop k (tracksOf t a)) j 1) 0 ≡ false
+      go : (j : ℕ) → Dec (suc (k + j) < 512) → eqb (getD (drop k (tracksIn t a)) j 1) 0 ≡ false
       go j (yes h) = each-drop k j ∙ o .below (suc (k + j)) (omega arith) h
       go j (no n) = each-drop k j ∙ f .past (suc (k + j)) (omega arith)
 
   -- the lowest free track above track k
-  above-first : (k q : ℕ) → Lowest s (k + 1) q → q % 512 ≡ first (strandsFrom (suc k) 0 (drop k (tracksOf t a)))
+  above-first : (k q : ℕ) → Lowest s (k + 1) q → q % 512 ≡ first (strandsFrom (suc k) 0 (drop k (tracksIn t a)))
   unfolding first
   above-first k q o = go (decLt q 512)
     where
-      go : Dec (q < 512) → q % 512 ≡ first (strandsFrom (suc k) 0 (drop k (tracksOf t a)))
+      go : Dec (q < 512) → q % 512 ≡ first (strandsFrom (suc k) 0 (drop k (tracksIn t a)))
       go (yes h) = mod-eq-of-lt h ∙ ap first (sym (above-some k q o h))
       go (no n) =
           let e : q ≡ 512 = omega (arith, o .high) in
@@ -102,21 +102,21 @@ module _ (t : ℕ) (a s : List ℕ) (l : t ≤ 511) (z : length a ≡ 512) (f : 
       go (suc r) o = omega arith
 
   -- the lowest member and the lowest above it, 0 where there is none
-  pub free-two : (r q : ℕ) → Lowest s 0 r → Lowest s (r % 512 % 512 + 1) q → _≡_ {A = Free} (record { first = r % 512; second = q % 512 }) (freeOf (tracksOf t a))
+  pub free-two : (r q : ℕ) → Lowest s 0 r → Lowest s (r % 512 % 512 + 1) q → _≡_ {A = Free} (record { first = r % 512; second = q % 512 }) (freeOf (tracksIn t a))
   unfolding freeOf lowest second strands first
   free-two r q o u = λ i. record { first = above-first 0 r (from-one r o) i; second = go (decLt r 512) i }
     where
-      go : Dec (r < 512) → q % 512 ≡ first (drop 1 (strandsFrom 1 0 (tracksOf t a)))
+      go : Dec (r < 512) → q % 512 ≡ first (drop 1 (strandsFrom 1 0 (tracksIn t a)))
       go (yes h) =
           let m : r % 512 % 512 ≡ r = omega arith in
           let v : Lowest s (r + 1) q = rw m at u in
           let e : suc (r - 1) ≡ r = omega (arith, from-one r o .low) in
-          above-first r q v ∙ ap (λ (n : ℕ). first (strandsFrom (suc r) 0 (drop n (tracksOf t a)))) (sym e)
+          above-first r q v ∙ ap (λ (n : ℕ). first (strandsFrom (suc r) 0 (drop n (tracksIn t a)))) (sym e)
           ∙ ap (λ (x : List ℕ). first (drop 1 x)) (sym (above-some 0 r (from-one r o) h))
       go (no n) =
           let e : r ≡ 512 = omega (arith, o .high) in
           let v : Lowest s 1 q = rw e at u in
-          let w : strandsFrom 1 0 (tracksOf t a) ≡ [] = above-none 0 (from-one 512 (rw e at o)) in
+          let w : strandsFrom 1 0 (tracksIn t a) ≡ [] = above-none 0 (from-one 512 (rw e at o)) in
           above-first 0 q v ∙ ap first w ∙ ap (λ (x : List ℕ). first (drop 1 x)) (sym w)
 
 -- ---- the sets of extended and of wide nets

@@ -26,7 +26,7 @@ use Rattle.sweep.specs.ManyPin.{chooseMany}
 use Rattle.sweep.specs.Drawing
 use Rattle.sweep.specs.Drawing.{actionOf, kindBy, freeOf, pinAt, extendedAt, wideAt, extendedNet, netToJoin, jointOf, action, gap, drawn}
 use Rattle.sweep.specs.Working.{Flat}
-use Rattle.router.specs.Working.{tracksOf, Holds, Spans, RowsAndLasts, Ready, Fitting, FitsAt, Marked, Keeps, narrow, AtGap, DrawnTo, Next, ToJoin, LowestJoint, pinBy, extendedBy, wideBy, jointBy}
+use Rattle.router.specs.Working.{tracksIn, Holds, Spans, RowsAndLasts, Ready, Fitting, FitsAt, Marked, Keeps, narrow, AtGap, DrawnTo, Next, ToJoin, LowestJoint, pinBy, extendedBy, wideBy, jointBy}
 use Rattle.sweep.proofs.Tracks.Changed.{below-or}
 use Rattle.router.proofs.Laws.Arrays.{length-tracks, tracks-at, own}
 use Rattle.sweep.proofs.Rules.Seconds.{leaving, two-same, many-same}
@@ -52,7 +52,7 @@ pin-kind f l a b m c v A e = subst (λ (x : Pin). x .kind ≤ 3) (sym e) (go (eq
     go false = kind-bound (not (eqb f 0) && leb f c) (ltb (c + 1) l)
 
 -- a net on the tracks is numbered up to 256
-pub on-small : {t : ℕ} {tr d f l h n : List ℕ} → Holds t tr d f l h n → (v : ℕ) → OnTrack v (tracksOf t d) → v ≤ 256
+pub on-small : {t : ℕ} {tr d f l h n : List ℕ} → Holds t tr d f l h n → (v : ℕ) → OnTrack v (tracksIn t d) → v ≤ 256
 on-small {t} {tr} {d} w v o =
     subst (λ (k : ℕ). k ≤ 256) (sym (tracks-at t d (o .0) (omega (arith, o .1, length-tracks t d (w .fits) (w .sized)))) ∙ o .2) (w .nets (suc (o .0)))
 
@@ -63,10 +63,10 @@ pub nonzero : (v : ℕ) → not (eqb v 0) ≡ true → 0 < v
 nonzero zero e = let z : _≡_ {A = ℕ} 0 1 = cc in absurd (omega arith)
 nonzero (suc v) e = omega arith
 
-module _ (top bottom first last : List ℕ) (sp : Spans top bottom first last) {t : ℕ} {d f low high number : List ℕ} (h : Holds t (tracksOf t d) d f low high number) (c : ℕ) where
+module _ (top bottom first last : List ℕ) (sp : Spans top bottom first last) {t : ℕ} {d f low high number : List ℕ} (h : Holds t (tracksIn t d) d f low high number) (c : ℕ) where
   -- the tracks
   abbrev tr : List ℕ
-  tr = tracksOf t d
+  tr = tracksIn t d
 
   -- the pin by the arrays is the pin
   pin-is : (v : ℕ) → v ≤ 256 → pinBy (getD first v 0) (getD last v 0) (getD low v 0) (getD high v 0) (getD number v 0) c v ≡ pinAt top bottom c tr v
@@ -89,7 +89,7 @@ module _ (top bottom first last : List ℕ) (sp : Spans top bottom first last) {
     counted : (v : ℕ) → 0 < v → 0 < getD number v 0 → (v ≤ 256) × (0 < many v tr)
     counted v p q =
         ⊎-elim (λ (l : v < 257). (omega arith, subst (λ (k : ℕ). 0 < k) (h .numbers .at v p (omega arith)) q))
-        (λ (l : 257 ≤ v). let z : getD number v 0 ≡ 0 = List·getD-eq-default number 0 (omega (arith, h .numbers .sized)) in absurd (omega arith)) (below-or v 257)
+        (λ (l : 257 ≤ v). let z : getD number v 0 ≡ 0 = List·getD-eq-default number 0 (omega (arith, h .numbers .size)) in absurd (omega arith)) (below-or v 257)
 
     -- the set of extended nets by its test
     extended-gathers : Gathers (extendedAt top bottom c) tr s
@@ -164,46 +164,46 @@ module _ (top bottom first last : List ℕ) (sp : Spans top bottom first last) {
 
 -- a column, from what its functions found
 module _ (top bottom first last : List ℕ) {t : ℕ} {d f low high number s w : List ℕ} {fam : Family} (c : ℕ) (A B : Pin) (x : Action)
-    (h : Holds t (tracksOf t d) d f low high number) (so : Marked last number c s w fam)
+    (h : Holds t (tracksIn t d) d f low high number) (so : Marked last number c s w fam)
     (ea : A ≡ pinBy (getD first (getD top c 0) 0) (getD last (getD top c 0) 0) (getD low (getD top c 0) 0) (getD high (getD top c 0) 0) (getD number (getD top c 0) 0) c (getD top c 0))
     (eb : B ≡ pinBy (getD first (getD bottom c 0) 0) (getD last (getD bottom c 0) 0) (getD low (getD bottom c 0) 0) (getD high (getD bottom c 0) 0) (getD number (getD bottom c 0) 0) c (getD bottom c 0)) where
   -- its top pin
-  top-is : {p : Family} → Ready top bottom first last t p → A ≡ pinAt top bottom c (tracksOf t d) (getD top c 0)
+  top-is : {p : Family} → Ready top bottom first last t p → A ≡ pinAt top bottom c (tracksIn t d) (getD top c 0)
   top-is r = ea ∙ pin-is top bottom first last (r .spans) h c (getD top c 0) (r .tops c)
 
   -- its bottom pin
-  bottom-is : {p : Family} → Ready top bottom first last t p → B ≡ pinAt top bottom c (tracksOf t d) (getD bottom c 0)
+  bottom-is : {p : Family} → Ready top bottom first last t p → B ≡ pinAt top bottom c (tracksIn t d) (getD bottom c 0)
   bottom-is r = eb ∙ pin-is top bottom first last (r .spans) h c (getD bottom c 0) (r .bottoms c)
 
   -- of a two-pin channel
   pub column-is : fam ≡ TwoPin → Ready top bottom first last t fam
-      → ((N : Joint) → LowestJoint last low high s (tracksOf t d) c N → x ≡ chooseTwo t A B (freeOf (tracksOf t d)) N)
-      → x ≡ action t top bottom c (tracksOf t d)
+      → ((N : Joint) → LowestJoint last low high s (tracksIn t d) c N → x ≡ chooseTwo t A B (freeOf (tracksIn t d)) N)
+      → x ≡ action t top bottom c (tracksIn t d)
   unfolding action actionOf
   column-is m r ex =
-      let J : ℕ → Joint = jointOf top bottom c (tracksOf t d) in
+      let J : ℕ → Joint = jointOf top bottom c (tracksIn t d) in
       let p = top-is r in
       let q = bottom-is r in
-      let e : x ≡ chooseTwo t A B (freeOf (tracksOf t d)) (leaving (J (extendedNet top bottom c (tracksOf t d)))) =
+      let e : x ≡ chooseTwo t A B (freeOf (tracksIn t d)) (leaving (J (extendedNet top bottom c (tracksIn t d)))) =
       ex _ (λ v nx.
       joint-is top bottom first last (r .spans) h c v (extended-small top bottom first last (r .spans) h c so v nx)
       ∙ ap (λ (u : ℕ). leaving (J u)) (extended-is top bottom first last (r .spans) h c so v nx)) in
-      rw (r .is ∙ m) (cc (two-same A B (freeOf (tracksOf t d)) (J (extendedNet top bottom c (tracksOf t d))) t))
+      rw (r .is ∙ m) (cc (two-same A B (freeOf (tracksIn t d)) (J (extendedNet top bottom c (tracksIn t d))) t))
 
   -- and of a many-pin channel
-  pub column-many-is : fam ≡ ManyPin → Ready top bottom first last t fam → (free : Free) (v : ℕ) (N : Joint) (b : Bool) → free ≡ freeOf (tracksOf t d) → ToJoin s w v
-      → N ≡ jointBy (getD last v 0) (getD low v 0) (second v (tracksOf t d)) (getD high v 0) c v → b ≡ ltb (c + 1) (getD last (getD top c 0) 0)
-      → x ≡ chooseMany t A B free N b → x ≡ action t top bottom c (tracksOf t d)
+  pub column-many-is : fam ≡ ManyPin → Ready top bottom first last t fam → (free : Free) (v : ℕ) (N : Joint) (b : Bool) → free ≡ freeOf (tracksIn t d) → ToJoin s w v
+      → N ≡ jointBy (getD last v 0) (getD low v 0) (second v (tracksIn t d)) (getD high v 0) c v → b ≡ ltb (c + 1) (getD last (getD top c 0) 0)
+      → x ≡ chooseMany t A B free N b → x ≡ action t top bottom c (tracksIn t d)
   unfolding action actionOf
   column-many-is m r free v N b ef nx en el ex =
-      let J : ℕ → Joint = jointOf top bottom c (tracksOf t d) in
+      let J : ℕ → Joint = jointOf top bottom c (tracksIn t d) in
       let p = top-is r in
       let q = bottom-is r in
-      let n : N ≡ leaving (J (netToJoin top bottom c (tracksOf t d))) =
+      let n : N ≡ leaving (J (netToJoin top bottom c (tracksIn t d))) =
       en ∙ joint-is top bottom first last (r .spans) h c v (to-join-small top bottom first last (r .spans) h c so (ap narrow m) v nx)
       ∙ ap (λ (u : ℕ). leaving (J u)) (to-join-is top bottom first last (r .spans) h c so (ap narrow m) v nx) in
       let l : b ≡ Drawing.later top bottom (suc c) (getD top c 0) = el ∙ ap (λ (k : ℕ). ltb k (getD last (getD top c 0) 0)) (add-one c) ∙ sym (r .spans .after (suc c) (getD top c 0) (r .tops c)) in
-      rw (r .is ∙ m) (cc (many-same A B free (J (netToJoin top bottom c (tracksOf t d))) t b))
+      rw (r .is ∙ m) (cc (many-same A B free (J (netToJoin top bottom c (tracksIn t d))) t b))
 
 -- ---- one column after another
 
@@ -216,7 +216,7 @@ pub at-next : (at i each : ℕ) → at ≡ i * each → at + each ≡ (i + 1) * 
 at-next at i each e = cc (add-one i, suc-mul i each)
 
 -- what the arrays hold are their own tracks
-pub keeps-own : {last : List ℕ} {t : ℕ} {fam : Family} {c : ℕ} {tr a f l h n s w : List ℕ} → Keeps last t fam c tr a f l h n s w → Keeps last t fam c (tracksOf t a) a f l h n s w
+pub keeps-own : {last : List ℕ} {t : ℕ} {fam : Family} {c : ℕ} {tr a f l h n s w : List ℕ} → Keeps last t fam c tr a f l h n s w → Keeps last t fam c (tracksIn t a) a f l h n s w
 keeps-own k = record { holds = own (k .holds); marked = k .marked }
 
 -- the rows and the last columns of a channel
@@ -224,25 +224,25 @@ pub rows-and-lasts : {top bottom first last : List ℕ} {t : ℕ} {fam : Family}
 rows-and-lasts r = record { rows = r .rows; most = r .most; tops = r .tops; bottoms = r .bottoms; lasts = r .spans .after }
 
 -- the column's action, by the arrays' tracks, is that of the gap which they hold
-pub action-at : (top bottom : List ℕ) (c : ℕ) (x : Action) {t : ℕ} {tr a f l h n : List ℕ} → Holds t tr a f l h n → x ≡ action t top bottom c (tracksOf t a) → x ≡ action t top bottom c tr
+pub action-at : (top bottom : List ℕ) (c : ℕ) (x : Action) {t : ℕ} {tr a f l h n : List ℕ} → Holds t tr a f l h n → x ≡ action t top bottom c (tracksIn t a) → x ≡ action t top bottom c tr
 action-at top bottom c x {t} w e = e ∙ ap (action t top bottom c) (w .is)
 
 -- the column's action fits the arrays' tracks
-pub fitting-at : (top bottom : List ℕ) (c : ℕ) (x : Action) {t : ℕ} {tr a f l h n : List ℕ} → Holds t tr a f l h n → x ≡ action t top bottom c (tracksOf t a) → Fitting top bottom c (action t top bottom c tr) tr → Fitting top bottom c x (tracksOf t a)
+pub fitting-at : (top bottom : List ℕ) (c : ℕ) (x : Action) {t : ℕ} {tr a f l h n : List ℕ} → Holds t tr a f l h n → x ≡ action t top bottom c (tracksIn t a) → Fitting top bottom c (action t top bottom c tr) tr → Fitting top bottom c x (tracksIn t a)
 fitting-at top bottom c x {t} {tr} {a} w e p =
-    subst (λ (z : Action). Fitting top bottom c z (tracksOf t a)) (sym e) (subst (λ (z : List ℕ). Fitting top bottom c (action t top bottom c z) z) (sym (w .is)) p)
+    subst (λ (z : Action). Fitting top bottom c z (tracksIn t a)) (sym e) (subst (λ (z : List ℕ). Fitting top bottom c (action t top bottom c z) z) (sym (w .is)) p)
 
 -- the arrays hold the next gap
-gap-next : (top bottom : List ℕ) (i : ℕ) (x : Action) {t : ℕ} {a f l h n a′ f′ l′ h′ n′ : List ℕ} → Holds t (gap t top bottom i) a f l h n → x ≡ action t top bottom i (tracksOf t a)
-    → Holds t (after x (tracksOf t a)) a′ f′ l′ h′ n′ → Holds t (gap t top bottom (i + 1)) a′ f′ l′ h′ n′
+gap-next : (top bottom : List ℕ) (i : ℕ) (x : Action) {t : ℕ} {a f l h n a′ f′ l′ h′ n′ : List ℕ} → Holds t (gap t top bottom i) a f l h n → x ≡ action t top bottom i (tracksIn t a)
+    → Holds t (after x (tracksIn t a)) a′ f′ l′ h′ n′ → Holds t (gap t top bottom (i + 1)) a′ f′ l′ h′ n′
 unfolding gap
 gap-next top bottom i x {t} {a} {f} {l} {h} {n} {a′} {f′} {l′} {h′} {n′} w e u =
-    let s : after x (tracksOf t a) ≡ after (action t top bottom i (gap t top bottom i)) (gap t top bottom i) = cc in
+    let s : after x (tracksIn t a) ≡ after (action t top bottom i (gap t top bottom i)) (gap t top bottom i) = cc in
     rw add-one (subst (λ (z : List ℕ). Holds t z a′ f′ l′ h′ n′) s u)
 
 -- so do the sets
 pub at-gap-next : (top bottom : List ℕ) (c : ℕ) (x : Action) {last : List ℕ} {t : ℕ} {fam : Family} {a f l h n s w a′ f′ l′ h′ n′ s′ w′ : List ℕ}
-    → AtGap top bottom last t fam c a f l h n s w → x ≡ action t top bottom c (tracksOf t a) → Keeps last t fam (c + 1) (after x (tracksOf t a)) a′ f′ l′ h′ n′ s′ w′
+    → AtGap top bottom last t fam c a f l h n s w → x ≡ action t top bottom c (tracksIn t a) → Keeps last t fam (c + 1) (after x (tracksIn t a)) a′ f′ l′ h′ n′ s′ w′
     → AtGap top bottom last t fam (c + 1) a′ f′ l′ h′ n′ s′ w′
 at-gap-next top bottom c x g e k = record { holds = gap-next top bottom c x (g .holds) e (k .holds); marked = k .marked }
 
@@ -261,7 +261,7 @@ drawn-suc t top bottom i = rw add-one
 
 -- the entries of column i + 1, as the writer leaves them
 column-next : (top bottom : List ℕ) (i : ℕ) (x : Action) (ys : List ℕ) {t : ℕ} {a f l h n : List ℕ} → x ≡ action t top bottom i (gap t top bottom i)
-    → Holds t (gap t top bottom (i + 1)) a f l h n → ys ≡ verticals t x ++ tracksOf t a → drawn t top bottom (i + 1) ≡ drawn t top bottom i ++ ys
+    → Holds t (gap t top bottom (i + 1)) a f l h n → ys ≡ verticals t x ++ tracksIn t a → drawn t top bottom (i + 1) ≡ drawn t top bottom i ++ ys
 column-next top bottom i x ys {t} {a} e u y =
     let s : ys ≡ verticals t (action t top bottom i (gap t top bottom i)) ++ gap t top bottom (i + 1) = cc (u .is) in
     drawn-suc t top bottom i ∙ ap (λ (z : List ℕ). drawn t top bottom i ++ z) (sym s)
@@ -294,7 +294,7 @@ none-drawn top bottom t l = record { shows = rw zero-mul; sized = sym (zero-mul 
 -- one column more
 pub drawn-next : (top bottom l₀ l ys : List ℕ) (i at : ℕ) (x : Action) {t : ℕ} {a f low high n : List ℕ} → at ≡ i * (2 * t + 1)
     → DrawnTo top bottom t i l₀ l → x ≡ action t top bottom i (gap t top bottom i) → Holds t (gap t top bottom (i + 1)) a f low high n
-    → ys ≡ verticals t x ++ tracksOf t a → length ys ≡ 2 * t + 1
+    → ys ≡ verticals t x ++ tracksIn t a → length ys ≡ 2 * t + 1
     → DrawnTo top bottom t (i + 1) l₀ (take at l ++ (ys ++ drop (at + (2 * t + 1) - at) (drop at l)))
 drawn-next top bottom l₀ l ys i at x {t} ea D ex h ey en =
     let d = column-next top bottom i x ys ex h ey in

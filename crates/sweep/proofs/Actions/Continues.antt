@@ -10,6 +10,8 @@ use lib.ListN.{length, getD}
 use Rattle.grid.specs.Channel.{pick, bit}
 use Rattle.grid.proofs.Tests.{Same, same, diff, sameBy, bit-most}
 use Rattle.grid.specs.Segments.{segment}
+use Rattle.grid.specs.declared.Segments.{Segments}
+use Rattle.sweep.specs.Rules.{act, goes}
 use Rattle.grid.proofs.Drawings.Segments.{Ordered, segment-none, AtRun, carried, bottomRun, topRun}
 use Rattle.sweep.specs.declared.Pin.{Pin}
 use Rattle.sweep.specs.declared.Free.{Free}
@@ -22,6 +24,15 @@ use Rattle.sweep.specs.Working.{nobody, topNet, bottomNet}
 use Rattle.sweep.proofs.Gaps.Pins.{Reaches}
 use Rattle.sweep.proofs.Actions.Good.{Good, BothOn, pick-diff, other-track, other-gift, top-run, bottom-run, pins-sound}
 use Rattle.sweep.proofs.Actions.Good.{bottom-end, none-ends, one-leaves-on}
+
+-- net N leaves on the free track y, gives its strand z away and keeps its other strand o where it has not one alone: no track is given twice
+moves-apart : {tr : List ℕ} {w : Segments} {e k N M y z o m : ℕ} → N ≢ 0 → Strand 0 tr y → Strand N tr z → Strand N tr o → (m ≢ 1 → z ≢ o)
+    → Distinct (act w e k (goes y N) (goes z M) (goes (pick (eqb m 1) 0 o) N))
+moves-apart {o} {m} n s r q d = record {
+  d12 = λ j e g. tracks-differ s r (λ i. n (sym i)) (e ∙ sym g);
+  d13 = λ j e g. tracks-differ s q (λ i. n (sym i)) (e ∙ sym (other-track m o j g .0));
+  d23 = λ j e g. (let (i, w) = other-track m o j g in d w (e ∙ sym i));
+}
 
 module _ (top bottom : List ℕ) (c t : ℕ) (tr : List ℕ) (size : length tr ≡ t) (A B : Pin) (pinsOn : BothOn top bottom c t tr (A .net) (B .net)) where
   -- DIRECT: no net ends, and one pin's net, w, takes track y at most
@@ -177,15 +188,8 @@ module _ (top bottom : List ℕ) (c t : ℕ) (tr : List ℕ) (size : length tr �
           )),
     )
       where
-        far : A .high < f .first
-        far = let q = tracks-differ s (a .highIs) (λ i. a .some (sym i)) in omega arith
-
         apart : Distinct (topMoves A B f)
-        apart = record {
-          d12 = λ j e g. omega (arith, far);
-          d13 = λ j e g. (let (i, w) = other-track (A .many) (A .low) j g in omega (arith, far, a .spread w));
-          d23 = λ j e g. (let (i, w) = other-track (A .many) (A .low) j g in omega (arith, a .spread w));
-        }
+        apart = moves-apart (a .some) s (a .highIs) (a .lowIs) (λ (w : A .many ≢ 1). omega (arith, a .spread w))
 
         leaves : Strand (A .net) (after (topMoves A B f) tr) (f .first)
         leaves = one-leaves (topMoves A B f) tr apart s refl
@@ -239,15 +243,8 @@ module _ (top bottom : List ℕ) (c t : ℕ) (tr : List ℕ) (size : length tr �
           )),
     )
       where
-        far : f .first < B .low
-        far = let q = tracks-differ s (b .lowIs) (λ i. b .some (sym i)) in omega arith
-
         apart : Distinct (bottomMoves A B f)
-        apart = record {
-          d12 = λ j e g. omega (arith, far);
-          d13 = λ j e g. (let (i, w) = other-track (B .many) (B .high) j g in omega (arith, far, b .spread w));
-          d23 = λ j e g. (let (i, w) = other-track (B .many) (B .high) j g in omega (arith, b .spread w));
-        }
+        apart = moves-apart (b .some) s (b .lowIs) (b .highIs) (λ (w : B .many ≢ 1). omega (arith, b .spread w))
 
         leaves : Strand (B .net) (after (bottomMoves A B f) tr) (f .first)
         leaves = one-leaves (bottomMoves A B f) tr apart s refl

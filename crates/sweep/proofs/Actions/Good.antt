@@ -8,7 +8,7 @@ use native.Mathlib.Omega.{arith}
 use lib.Dec.{eqb}
 use lib.ListN.{length, getD}
 use Rattle.grid.specs.Channel.{pick, bit, times, left}
-use Rattle.grid.proofs.Tests.{Same, same, diff, sameBy, bit-most, pick-not-zero}
+use Rattle.grid.proofs.Tests.{Same, same, diff, sameBy, bit-most}
 use Rattle.grid.proofs.Counting.{at-below}
 use Rattle.grid.specs.Segments.{segment}
 use Rattle.grid.proofs.Drawings.Segments.{Ordered, segment-run, Fares, alone, bottomRun, topRun}
@@ -24,10 +24,6 @@ use Rattle.sweep.proofs.Gaps.Keeps.{Follows}
 
 -- CHOICES OF A TRACK
 
--- a track for a net that is there
-pub taken-some : (v y : ℕ) → v ≢ 0 → taken v y ≡ y
-taken-some = pick-not-zero
-
 -- the track of a net other than N
 pub pick-diff : (u N y z : ℕ) → u ≢ N → pick (eqb u N) y z ≡ z
 pick-diff u N y z n = go (eqb u N) (sameBy u N)
@@ -35,6 +31,10 @@ pick-diff u N y z n = go (eqb u N) (sameBy u N)
     go : (q : Bool) → Same u N q → pick q y z ≡ z
     go true (same e) = absurd (n e)
     go false d = refl
+
+-- a track for a net that is there
+pub taken-some : (v y : ℕ) → v ≢ 0 → taken v y ≡ y
+taken-some v y = pick-diff v 0 0 y
 
 -- no track of its own for N
 pub gift-own : (N u y : ℕ) → gift N (pick (eqb u N) 0 y) u ≡ 0

@@ -11,12 +11,12 @@ use Rattle.grid.proofs.Rows.{RowsFit, two-fit, two-density, many-density, left-
 
 -- THE TRACKS that the sweep of each family asks for
 pub record Enough (t : ℕ) (top bottom : List ℕ) : Type 0 where
-  pub two : family top bottom ≡ TwoPin → density top bottom ≤ t
-  pub many : family top bottom ≡ ManyPin → 2 * density top bottom - 1 ≤ t
+  pub twoPin : family top bottom ≡ TwoPin → density top bottom ≤ t
+  pub manyPin : family top bottom ≡ ManyPin → 2 * density top bottom - 1 ≤ t
 
 -- the channel's tracks are enough
 pub tracks-enough : (top bottom : List ℕ) → Enough (tracks top bottom) top bottom
-tracks-enough top bottom = record { two = λ e. omega (arith, two-density top bottom e); many = λ e. omega (arith, many-density top bottom e) }
+tracks-enough top bottom = record { twoPin = λ e. omega (arith, two-density top bottom e); manyPin = λ e. omega (arith, many-density top bottom e) }
 
 -- THE INVARIANT of the t tracks in gap c
 pub record Held (t : ℕ) (top bottom : List ℕ) (c : ℕ) (tr : List ℕ) : Type 0 where

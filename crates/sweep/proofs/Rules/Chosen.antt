@@ -6,12 +6,12 @@ use mathlib.Core.Bool.{Bool, true, false, not, _&&_, _||_}
 use mathlib.Core.List.{List}
 use native.Mathlib.Omega.{arith}
 use native.Mathlib.Decide.{ℕ-discrete}
-use lib.Dec.{T, eqb, ltb}
+use lib.Dec.{eqb, ltb}
 use lib.ListN.{length, getD}
 use Rattle.grid.specs.declared.Family.{Family}
 use Rattle.grid.specs.declared.Family.the-variants.{TwoPin, ManyPin}
 use Rattle.grid.specs.Channel.{pick, bit, times, right, family}
-use Rattle.grid.proofs.Tests.{Below, eqb-true, eqb-false, ltb-true, ltb-false, eq-eqb, ne-eqb, and-true, or-false, not-true, not-false}
+use Rattle.grid.proofs.Tests.{Below, eqb-true, eqb-false, ltb-true, ltb-false, eq-eqb, and-true, or-false, not-true, not-false}
 use Rattle.grid.proofs.Rows.{RowsFit, two-fit, HasPin, left-right, right-suc, pin-right}
 use Rattle.sweep.specs.declared.Action.{Action}
 use Rattle.sweep.specs.declared.Pin.{Pin}
@@ -31,7 +31,7 @@ use Rattle.sweep.proofs.Gaps.Held.{Held}
 use Rattle.sweep.proofs.Gaps.Pins.{Reaches, LowestFree, lowest-free, On, Off, Met, Placed, Pinned, pinned, Stays, begun, both-on, top-later, true-of}
 use Rattle.sweep.proofs.Gaps.Pins.{false-of, of-true}
 use Rattle.sweep.proofs.Gaps.Joints.{Joins, extended-joins, to-join-joins, to-join-few}
-use Rattle.sweep.proofs.Rules.Room.{asksKinds, asksTwo, asksMany, asksOf, asks, never}
+use Rattle.sweep.proofs.Rules.Room.{asksKinds, asksTwo, asksMany, asksOf, asks, never, not-none, not-one}
 use Rattle.sweep.proofs.Actions.Good.{Good, BothOn, Begun}
 use Rattle.sweep.proofs.Actions.Free.{straight-good, full-good, topTakesFree-good, bottomTakesFree-good, bothTakeFree-good}
 use Rattle.sweep.proofs.Actions.Ends.{topEnds-good, bottomEnds-good, bothJoin-good}
@@ -207,14 +207,11 @@ module _ (top bottom : List ℕ) (fit : RowsFit top bottom) (c t : ℕ) (tr : Li
           byRoom Fine (times 0 tr) (eqb (A .net) 0 && eqb (B .net) 0) p
           (λ i q. let z = and-true (eqb (A .net) 0) (eqb (B .net) 0) i in noPins (eqb-true (A .net) 0 (z .0)) (eqb-true (B .net) 0 (z .1)))
           (λ i q. byRoom Fine (times 0 tr) (eqb (A .net) (B .net)) q
-          (λ j r. let e = eqb-true (A .net) (B .net) j in bothPinsHere (some e i) e r)
+          (λ j r. let e = eqb-true (A .net) (B .net) j in bothPinsHere (not-none (A .net) (B .net) i e) e r)
           (λ j r. let d : B .net ≢ A .net = λ x. eqb-false (A .net) (B .net) j (sym x) in
           byRoom Fine (times 0 tr) (eqb (N .net) 0) r
           (λ k s. let z = eqb-true (N .net) 0 k in manyKinds d (fewA z) (fewB z) (kindOf (A .kind)) (kindOf (B .kind)) (pin .above .met) (pin .below .met) s)
           (λ k s. joinHere (eqb-false (N .net) 0 k) (started d))))
-        where
-          some : A .net ≡ B .net → (eqb (A .net) 0 && eqb (B .net) 0) ≡ false → A .net ≢ 0
-          some e i z = subst T (rw (eq-eqb (A .net) 0 z, eq-eqb (B .net) 0 (sym e ∙ z)) at i) tt
 
     -- CHANNELS OF TWO-PIN NETS
     joinOrHere : B .net ≢ A .net → {x : Action} → (N .net ≡ 0 → Fine x) → Fine (joinOr N (A .net) (B .net) x)
@@ -254,7 +251,7 @@ module _ (top bottom : List ℕ) (fit : RowsFit top bottom) (c t : ℕ) (tr : Li
           let n = eqb-false (A .net) 0 (not-true (eqb (A .net) 0) (z .0)) in
           let e = eqb-true (A .net) (B .net) (z .1) in
           fullHere 0 n e (grant-idle (topNet refl)) (λ o. absurd (omega (arith, both e n))) (λ o. refl))
-          (λ i q. twoKinds (λ n e. subst T (rw (ne-eqb (A .net) 0 n, eq-eqb (A .net) (B .net) (sym e)) at i) tt) (kindOf (A .kind)) (kindOf (B .kind))
+          (λ i q. twoKinds (not-one (A .net) (B .net) i) (kindOf (A .kind)) (kindOf (B .kind))
           (pin .above .met) (pin .below .met)
           (λ z. rw (eq-eqb (N .net) 0 z) at q))
 

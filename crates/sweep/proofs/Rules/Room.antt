@@ -23,6 +23,16 @@ use Rattle.sweep.proofs.Gaps.Held.{Enough, Held, single, no-more}
 use Rattle.sweep.proofs.Gaps.Pins.{On, Met, Stays, Pinned, pinned, top-later, of-true, both-on}
 use Rattle.sweep.proofs.Gaps.Joints.{extended-calm, to-join-calm, to-join-few}
 
+-- THE PINS' NETS by the tests of the rules
+
+-- one net with both pins, where not both are none
+pub not-none : (a b : ℕ) → (eqb a 0 && eqb b 0) ≡ false → a ≡ b → a ≢ 0
+not-none a b i e z = subst T (rw (eq-eqb a 0 z, eq-eqb b 0 (sym e ∙ z)) at i) tt
+
+-- another net at the bottom than the one at the top, where one has not both pins
+pub not-one : (a b : ℕ) → (not (eqb a 0) && eqb a b) ≡ false → a ≢ 0 → b ≢ a
+not-one a b i n e = subst T (rw (ne-eqb a 0 n, eq-eqb a b (sym e)) at i) tt
+
 -- WHAT A COLUMN ASKS FOR
 
 -- by its pins' kinds, where rule 2 does not fit
@@ -226,7 +236,7 @@ module _ {t : ℕ} (top bottom : List ℕ) (fit : RowsFit top bottom) (c : ℕ) 
               kinds-room d 1 (single top bottom fit c tr h e) q (λ x. omega (arith, big)) (λ x. omega (arith, big)) (λ a b. absurd (never A atA a))
               (kindOf (A .kind)) (kindOf (B .kind)) (p .above .met) (p .below .met)
           go i q (yes x) (yes z) = idle (kindOf (A .kind)) (kindOf (B .kind)) (p .above .met) (p .below .met) z (x ∙ z)
-          go i q (yes x) (no z) = absurd (subst T (rw (ne-eqb (A .net) 0 z, eq-eqb (A .net) (B .net) (sym x)) at i) tt)
+          go i q (yes x) (no z) = absurd (not-one (A .net) (B .net) i z x)
 
     -- CHANNELS WITH A NET OF THREE OR MORE PINS: an open net has two strands at most
     module _ (big : 2 * density top bottom - 1 ≤ t) (N : Joint) (later : Bool) (told : A .net ≢ 0 → Below 0 (right top bottom (suc c) (A .net)) later)
@@ -270,7 +280,7 @@ module _ {t : ℕ} (top bottom : List ℕ) (fit : RowsFit top bottom) (c : ℕ) 
           (λ l.
           let o = or-false (ltb 0 (A .many)) (not later) k in
           let x = eqb-true (A .net) (B .net) j in
-          let n = some i x in
+          let n = not-none (A .net) (B .net) i x in
           both-room (eqb-true (N .net) 0 l) n x (omega (arith, p .above .some n, ltb-false 0 (A .many) (o .0))) (of-true (told n) (not-false later (o .1))))
           (λ l. zero-le)))
           (λ j. pick-le (eqb (N .net) 0) (times 0 tr)
@@ -278,18 +288,15 @@ module _ {t : ℕ} (top bottom : List ℕ) (fit : RowsFit top bottom) (c : ℕ) 
           kinds-room d 2 (few z) (calm z) (λ x. omega (arith, big)) (λ x. omega (arith, big)) (cross-room z d)
           (kindOf (A .kind)) (kindOf (B .kind)) (p .above .met) (p .below .met))
           (λ l. zero-le)))
-        where
-          some : (eqb (A .net) 0 && eqb (B .net) 0) ≡ false → A .net ≡ B .net → A .net ≢ 0
-          some i x z = subst T (rw (eq-eqb (A .net) 0 z, eq-eqb (B .net) 0 (sym x ∙ z)) at i) tt
 
   -- THE ROOM: the free tracks that a column asks for are there, in the sweep of each family
   room-of : Enough t top bottom → (f : Family) → family top bottom ≡ f → asksOf top bottom f c tr ≤ times 0 tr
   unfolding asksOf
   room-of enough TwoPin e =
-      two-room (pinAt top bottom c tr (getD top c 0)) (pinAt top bottom c tr (getD bottom c 0)) (pinned top bottom c tr h) e (enough .two e)
+      two-room (pinAt top bottom c tr (getD top c 0)) (pinAt top bottom c tr (getD bottom c 0)) (pinned top bottom c tr h) e (enough .twoPin e)
       (jointOf top bottom c tr (extendedNet top bottom c tr)) (extended-calm top bottom c tr h)
   room-of enough ManyPin e =
-      many-room (pinAt top bottom c tr (getD top c 0)) (pinAt top bottom c tr (getD bottom c 0)) (pinned top bottom c tr h) (enough .many e)
+      many-room (pinAt top bottom c tr (getD top c 0)) (pinAt top bottom c tr (getD bottom c 0)) (pinned top bottom c tr h) (enough .manyPin e)
       (jointOf top bottom c tr (netToJoin top bottom c tr)) (later top bottom (suc c) (getD top c 0))
       (top-later top bottom c tr h (pinned top bottom c tr h .above))
       (to-join-calm top bottom c tr h) (to-join-few top bottom c tr h)

@@ -1,4 +1,4 @@
--- A net's strands after one of its tracks is given, or all are taken.
+-- A net's strands after a free track goes to it, or all of them end; bounds of strands, and the second one found by a search.
 use Prim.Native.Nat.{ℕ, zero, suc, _+_, _≤_, _<_, max, min}
 use mathlib.Core.Path.{_≡_, refl, sym, ap, _∙_}
 use mathlib.Core.Bool.{Bool, true, false}

@@ -124,13 +124,6 @@ unfolding last
 last-of-more s [] h = absurd (omega arith)
 last-of-more s (x ∷ xs) h = refl
 
--- nothing that ascends ends below its beginning
-last-low : (s : ℕ) (l : List ℕ) → Asc (suc s) l → s ≤ last (s ∷ l)
-unfolding last
-last-low s [] a = omega arith
-last-low s (x ∷ []) a = let h = a .0 in omega arith
-last-low s (x ∷ y ∷ ys) a = let ih = last-low x (y ∷ ys) (a .1) in let h = a .0 in omega arith
-
 -- each track that holds the net lies from the first to the last strand
 pub between-from : (s v : ℕ) (l : List ℕ) (i : ℕ) → i < length l → getD l i 0 ≡ v → (first (strandsFrom s v l) ≤ s + i) × (s + i ≤ last (strandsFrom s v l))
 unfolding strandsFrom first last
@@ -139,7 +132,7 @@ between-from s v (x ∷ xs) zero h g = go (eqb x v) (sameBy x v)
   where
     go : (q : Bool) → Same x v q → (first (pick q (s ∷ strandsFrom (suc s) v xs) (strandsFrom (suc s) v xs)) ≤ s + 0) × (s + 0 ≤ last
         (pick q (s ∷ strandsFrom (suc s) v xs) (strandsFrom (suc s) v xs)))
-    go true o = (omega arith, let k = last-low s (strandsFrom (suc s) v xs) (strands-asc (suc s) v xs) in omega arith)
+    go true o = (omega arith, let k = lo-last s (s ∷ strandsFrom (suc s) v xs) (omega arith, strands-asc (suc s) v xs) (omega arith) in omega arith)
     go false (diff n) = absurd (n g)
 between-from s v (x ∷ xs) (suc i) h g = go (eqb x v) (between-from (suc s) v xs i (omega arith) g)
   where

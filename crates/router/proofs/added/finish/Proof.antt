@@ -3,7 +3,7 @@ use Rattle.router.proofs.Laws.Added.{Upto, reached, onward-at, onward-j
 use Rattle.router.proofs.Laws.Added
 use Rattle.router.proofs.Laws.Sweeps.{on-small}
 use Rattle.router.proofs.Laws.Arrays.{own}
-use Rattle.router.specs.Working.{tracksOf}
+use Rattle.router.specs.Working.{tracksIn}
 use Rattle.sweep.specs.Drawing.{remains}
 use lib.ListN.{length}
 use mathlib.Core.Bool.{true}
@@ -16,7 +16,7 @@ use Rattle.router.proofs.added.finish.Tie as tie
 
 abbrev Inv-loop : tie.InvT-loop
 Inv-loop layout₀ tracks₀ free₀ low₀ high₀ many₀ extended t n w₀ v₀ layout tracks free low high many w v =
-    (v ≤ 256) × Upto t n (tracksOf t tracks₀) layout₀ (reached v) w layout tracks free low high many × ((v ≡ 0 → ⊥) → remains (tracksOf t tracks₀) v ≡ true) × (length layout ≡ length layout₀)
+    (v ≤ 256) × Upto t n (tracksIn t tracks₀) layout₀ (reached v) w layout tracks free low high many × ((v ≡ 0 → ⊥) → remains (tracksIn t tracks₀) v ≡ true) × (length layout ≡ length layout₀)
 
 abbrev μ-loop : tie.MeasureT-loop
 μ-loop layout₀ tracks₀ free₀ low₀ high₀ many₀ extended t n w₀ v₀ layout tracks free low high many w v =
@@ -37,7 +37,7 @@ join-net-requires c κs =
     let e = c .before .before .before .before .before .before in
     let o = c .before .before .before .before .before .before .before .before .before .before in
     let l = c .before .before .before .before .before .before .before .loop in
-    let r = next-column-fits (o .args .t) (o .args .n) (tracksOf (o .args .t) (o .args .tracks .now)) (l .v) (l .w) (length (o .args .layout .now)) (e .loop-test .taken) (l .inv .0) (l .inv .2 (e .loop-test .taken)) (l .inv .1 .columns) (o .pre .1 .1 .1 .1) in
+    let r = next-column-fits (o .args .t) (o .args .n) (tracksIn (o .args .t) (o .args .tracks .now)) (l .v) (l .w) (length (o .args .layout .now)) (e .loop-test .taken) (l .inv .0) (l .inv .2 (e .loop-test .taken)) (l .inv .1 .columns) (o .pre .1 .1 .1 .1) in
     ((omega (arith, e .loop-test .taken), l .inv .0, omega (arith, r .0, o .pre .1 .0)), (own (l .inv .1 .holds), omega (arith, r .1, l .inv .3)))
 
 add-w : tie.Need-add-w Inv-loop μ-loop
@@ -45,7 +45,7 @@ add-w c =
     let e = c .before .before .before .before .before .before .before .before .before in
     let o = c .before .before .before .before .before .before .before .before .before .before .before .before .before in
     let l = c .before .before .before .before .before .before .before .before .before .before .loop in
-    let r = next-column-fits (o .args .t) (o .args .n) (tracksOf (o .args .t) (o .args .tracks .now)) (l .v) (l .w) (length (o .args .layout .now)) (e .loop-test .taken) (l .inv .0) (l .inv .2 (e .loop-test .taken)) (l .inv .1 .columns) (o .pre .1 .1 .1 .1) in
+    let r = next-column-fits (o .args .t) (o .args .n) (tracksIn (o .args .t) (o .args .tracks .now)) (l .v) (l .w) (length (o .args .layout .now)) (e .loop-test .taken) (l .inv .0) (l .inv .2 (e .loop-test .taken)) (l .inv .1 .columns) (o .pre .1 .1 .1 .1) in
     omega (arith, r .0, o .pre .1 .0)
 
 next-net-requires : tie.Need-next-net-requires Inv-loop μ-loop
@@ -56,7 +56,7 @@ loop-less c =
     let o = c .before .before .before .before .before .before .before .before .before .before .before .before .before .before in
     let l = c .before .before .before .before .before .before .before .before .before .before .before .loop in
     let h = o .pre .1 .1 .0 in
-    let g = tracksOf (o .args .t) (o .args .tracks .now) in
+    let g = tracksIn (o .args .t) (o .args .tracks .now) in
     let t = c .before .before .before .before .before .before .before .before .before .before .loop-test .taken in
     let j = c .before .before .before .join-net .ensures in
     let f = first-fit (remains g) (o .args .n) (2 * o .args .t + 1) (length (o .args .layout .now)) (o .pre .1 .1 .1 .1) in
@@ -69,7 +69,7 @@ loop-again c =
     let o = c .before .before .before .before .before .before .before .before .before .before .before .before .before .before in
     let l = c .before .before .before .before .before .before .before .before .before .before .before .loop in
     let h = o .pre .1 .1 .0 in
-    let g = tracksOf (o .args .t) (o .args .tracks .now) in
+    let g = tracksIn (o .args .t) (o .args .tracks .now) in
     let t = c .before .before .before .before .before .before .before .before .before .before .loop-test .taken in
     let j = c .before .before .before .join-net .ensures in
     let f = first-fit (remains g) (o .args .n) (2 * o .args .t + 1) (length (o .args .layout .now)) (o .pre .1 .1 .1 .1) in
@@ -84,7 +84,7 @@ returns : tie.Need-returns Inv-loop μ-loop
 returns c =
     let o = c .before .before .before .before in
     let l = c .before .loop in
-    let g = tracksOf (o .args .t) (o .args .tracks .now) in
+    let g = tracksIn (o .args .t) (o .args .tracks .now) in
     let u : Upto (o .args .t) (o .args .n) g (o .args .layout .now) 256 (l .w) (l .layout) (l .tracks) (l .free) (l .low) (l .high) (l .many) =
     subst (λ (z : ℕ). Upto (o .args .t) (o .args .n) g (o .args .layout .now) (reached z) (l .w) (l .layout) (l .tracks) (l .free) (l .low) (l .high) (l .many)) (c .loop-test .left) (l .inv .1) in
     (u .columns, u .shows)

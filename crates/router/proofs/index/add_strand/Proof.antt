@@ -1,6 +1,6 @@
 -- `add_strand` meets its contract, by `added`.
 use Rattle.router.proofs.Laws.Arrays
-use Rattle.router.specs.Working.{tracksOf}
+use Rattle.router.specs.Working.{tracksIn}
 use mathlib.Core.Logic.{inl, inr}
 use mathlib.Core.Path.{refl}
 use Prim.Native.Nat.{_<_}
@@ -12,12 +12,12 @@ use Rattle.router.proofs.index.add_strand.Tie as tie
 returns : tie.Need-returns
 returns c =
     let o = c .before in
-    rw (Arrays.give-none (o .args .g .track) (o .args .g .net) (tracksOf (o .args .t) (o .args .tracks .now)) (inl (c .if1 .taken)) (o .pre .1)) (o .pre .2)
+    rw (Arrays.give-none (o .args .g .track) (o .args .g .net) (tracksIn (o .args .t) (o .args .tracks .now)) (inl (c .if1 .taken)) (o .pre .1)) (o .pre .2)
 
 returns-2 : tie.Need-returns-2
 returns-2 c =
     let o = c .before .before in
-    rw (Arrays.give-none (o .args .g .track) (o .args .g .net) (tracksOf (o .args .t) (o .args .tracks .now)) (inr (c .if2 .taken)) (o .pre .1)) (o .pre .2)
+    rw (Arrays.give-none (o .args .g .track) (o .args .g .net) (tracksIn (o .args .t) (o .args .tracks .now)) (inr (c .if2 .taken)) (o .pre .1)) (o .pre .2)
 
 cast-y : tie.Need-cast-y
 cast-y c = search needs

@@ -2,7 +2,7 @@
 use Rattle.router.proofs.Laws.Arrays.{own, after-step, free-held}
 use Rattle.sweep.specs.Tracks.{clear, give}
 use Rattle.sweep.specs.Tracks
-use Rattle.router.specs.Working.{tracksOf}
+use Rattle.router.specs.Working.{tracksIn}
 use borrow.Author.Needs.{needs}
 use Rattle.router.proofs.index.apply.Statement.{statement}
 use Rattle.router.proofs.index.apply.Tie as tie
@@ -21,7 +21,7 @@ add-strand-requires c κs =
     let d2 = c .before .before .before .before .before in
     let d1 = d2 .before .before .before .before .before .before in
     let o = d1 .before .before .before .before .before .before in
-    let tr = tracksOf (o .args .t) (o .args .tracks .now) in
+    let tr = tracksIn (o .args .t) (o .args .tracks .now) in
     let r2 = after-step (clear (o .args .x .closed)) {tr = clear (o .args .x .ended) tr} (d1 .drop-net .ensures) (d2 .drop-net2 .ensures) in
     (o .pre .0 .net1, free-held (o .args .x .gift1 .track) r2 (o .pre .0 .free1), own r2)
 
@@ -31,7 +31,7 @@ add-strand-requires-2 c κs =
     let d2 = g1 .before .before .before .before .before .before in
     let d1 = d2 .before .before .before .before .before .before in
     let o = d1 .before .before .before .before .before .before in
-    let tr = tracksOf (o .args .t) (o .args .tracks .now) in
+    let tr = tracksIn (o .args .t) (o .args .tracks .now) in
     let r2 = after-step (clear (o .args .x .closed)) {tr = clear (o .args .x .ended) tr} (d1 .drop-net .ensures) (d2 .drop-net2 .ensures) in
     let r3 = after-step (give (o .args .x .gift1 .track) (o .args .x .gift1 .net)) {tr = clear (o .args .x .closed) (clear (o .args .x .ended) tr)} r2 (g1 .add-strand .ensures) in
     (o .pre .0 .net2, free-held (o .args .x .gift2 .track) r3 (o .pre .0 .free2), own r3)
@@ -43,7 +43,7 @@ add-strand-requires-3 c κs =
     let d2 = g1 .before .before .before .before .before .before in
     let d1 = d2 .before .before .before .before .before .before in
     let o = d1 .before .before .before .before .before .before in
-    let tr = tracksOf (o .args .t) (o .args .tracks .now) in
+    let tr = tracksIn (o .args .t) (o .args .tracks .now) in
     let r2 = after-step (clear (o .args .x .closed)) {tr = clear (o .args .x .ended) tr} (d1 .drop-net .ensures) (d2 .drop-net2 .ensures) in
     let r3 = after-step (give (o .args .x .gift1 .track) (o .args .x .gift1 .net)) {tr = clear (o .args .x .closed) (clear (o .args .x .ended) tr)} r2 (g1 .add-strand .ensures) in
     let r4 = after-step (give (o .args .x .gift2 .track) (o .args .x .gift2 .net)) r3 (g2 .add-strand2 .ensures) in
@@ -57,7 +57,7 @@ returns c =
     let d2 = g1 .before .before .before .before .before .before in
     let d1 = d2 .before .before .before .before .before .before in
     let o = d1 .before .before .before .before .before .before in
-    let tr = tracksOf (o .args .t) (o .args .tracks .now) in
+    let tr = tracksIn (o .args .t) (o .args .tracks .now) in
     let r2 = after-step (clear (o .args .x .closed)) {tr = clear (o .args .x .ended) tr} (d1 .drop-net .ensures) (d2 .drop-net2 .ensures) in
     let r3 = after-step (give (o .args .x .gift1 .track) (o .args .x .gift1 .net)) {tr = clear (o .args .x .closed) (clear (o .args .x .ended) tr)} r2 (g1 .add-strand .ensures) in
     let r4 = after-step (give (o .args .x .gift2 .track) (o .args .x .gift2 .net)) r3 (g2 .add-strand2 .ensures) in

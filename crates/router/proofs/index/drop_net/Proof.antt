@@ -1,6 +1,6 @@
 -- `drop_net` meets its contract, by `dropped`; a net without strands has none to end.
 use Rattle.router.proofs.Laws.Arrays
-use Rattle.router.specs.Working.{tracksOf}
+use Rattle.router.specs.Working.{tracksIn}
 use mathlib.Core.Logic.{inl}
 use Prim.Native.Nat.{_<_}
 use Rattle.sweep.proofs.Tracks.Changed.{clear-idle}
@@ -12,7 +12,7 @@ use Rattle.router.proofs.index.drop_net.Tie as tie
 returns : tie.Need-returns
 returns c =
     let o = c .before in
-    rw (clear-idle (o .args .net) (tracksOf (o .args .t) (o .args .tracks .now)) (inl (c .if1 .taken))) (o .pre .1)
+    rw (clear-idle (o .args .net) (tracksIn (o .args .t) (o .args .tracks .now)) (inl (c .if1 .taken))) (o .pre .1)
 
 mul-if2 : tie.Need-mul-if2
 mul-if2 c = search needs

@@ -1,6 +1,6 @@
 -- `mark_net` meets its contract, by `put-marked`.
 use Rattle.router.proofs.Laws.Sets.{put-by, put-marked, none-put}
-use Rattle.router.proofs.Laws.Lowest.{not-both}
+use Rattle.grid.proofs.Tests.{not-both}
 use mathlib.Core.Path.{sym, _∙_}
 use borrow.Author.Needs.{needs}
 use Rattle.router.proofs.nets.mark_net.Statement.{statement}
