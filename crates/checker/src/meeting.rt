@@ -63,7 +63,7 @@ fn join(joined: &mut [u32; 257], net: u16, a: u32, b: u32)
 }
 
 // The left edge, of net ln, joins the edge below it, of net vd.
-fn left(
+fn label_left(
     layout: &[u16],
     t: usize,
     b: usize,
@@ -93,7 +93,7 @@ fn left(
 }
 
 // The upper edge, of net vu, takes the label of the left edge or of the edge below.
-fn up(
+fn label_up(
     layout: &[u16],
     t: usize,
     b: usize,
@@ -124,7 +124,7 @@ fn up(
 }
 
 // The right edge, of net rn, takes the label of one of the three.
-fn right(
+fn label_right(
     layout: &[u16],
     t: usize,
     b: usize,
@@ -183,9 +183,9 @@ fn meet(
     requires { ⌜ State (now layout) t b q j vl (now lab) (now begun) (now joined) ⌝ }
     ensures { λ r. ⌜ State (now (layout .entry)) t b q (j + 1) r (now (lab .exit)) (now (begun .exit)) (now (joined .exit)) ⌝ }
 {
-    let nl = left(layout, t, b, q, j, vl, vd, ln, lab, joined);
-    let ul = up(layout, t, b, q, j, vl, nl, vd, ln, vu, begun);
-    let rl = right(layout, t, b, q, j, vl, nl, ul, vd, ln, vu, rn, begun);
+    let nl = label_left(layout, t, b, q, j, vl, vd, ln, lab, joined);
+    let ul = label_up(layout, t, b, q, j, vl, nl, vd, ln, vu, begun);
+    let rl = label_right(layout, t, b, q, j, vl, nl, ul, vd, ln, vu, rn, begun);
     lab[j] = rl;
     ul
 }

@@ -19,8 +19,8 @@ pub per-net-grown : (m : ℕ) (a a′ : List ℕ) → PerNet m a → Grown a a�
 per-net-grown m a a′ k g = record { long = g .long ∙ k .long; most = λ N l. omega (arith, k .most N l, g .most N l) }
 
 -- a larger bound
-pub per-net-wide : (m m′ : ℕ) (a : List ℕ) → PerNet m a → m ≤ m′ → PerNet m′ a
-per-net-wide m m′ a k l = record { long = k .long; most = λ N i. omega (arith, k .most N i) }
+pub per-net-mono : (m m′ : ℕ) (a : List ℕ) → PerNet m a → m ≤ m′ → PerNet m′ a
+per-net-mono m m′ a k l = record { long = k .long; most = λ N i. omega (arith, k .most N i) }
 
 module _ (D : List ℕ) where
   -- no entry is below position 0
@@ -74,8 +74,8 @@ module _ (D : List ℕ) where
         (f : ℕ → ℕ) (M : ℕ) (begun begun′ joined : List ℕ) → M ≡ netOf D b → CountedTo D f b begun joined → PieceCounted b b M begun begun′
         → Counted D f (metBefore D t b 0) (b + 2 * 0 + 1) begun′ joined
     counted-first f M begun begun′ joined e c g = record {
-      fits = per-net-wide (b + 1) (b + 2 * 0 + 1) begun′ (per-net-grown b begun begun′ (c .fits) (g .grown)) (omega arith);
-      fits′ = per-net-wide b (b + 2 * 0 + 1) joined (c .fits′) (omega arith);
+      fits = per-net-mono (b + 1) (b + 2 * 0 + 1) begun′ (per-net-grown b begun begun′ (c .fits) (g .grown)) (omega arith);
+      fits′ = per-net-mono b (b + 2 * 0 + 1) joined (c .fits′) (omega arith);
       counts = λ N n l. omega (arith, c .counts N n l, rw (e, eq-eqb b b refl) at (g .counts N n l), met-first N);
     }
 
@@ -88,9 +88,9 @@ module _ (D : List ℕ) where
         let m = b + 2 * j + 1 in
         record {
           fits =
-              per-net-wide (m + 1 + 1) (b + 2 * (j + 1) + 1) begun₂
+              per-net-mono (m + 1 + 1) (b + 2 * (j + 1) + 1) begun₂
               (per-net-grown (m + 1) begun₁ begun₂ (per-net-grown m begun begun₁ (c .fits) (u .grown)) (r .grown)) (omega arith);
-          fits′ = per-net-wide (m + 1) (b + 2 * (j + 1) + 1) joined′ (per-net-grown m joined joined′ (c .fits′) (i .grown)) (omega arith);
+          fits′ = per-net-mono (m + 1) (b + 2 * (j + 1) + 1) joined′ (per-net-grown m joined joined′ (c .fits′) (i .grown)) (omega arith);
           counts = λ N n l. omega (arith, c .counts N n l, i .counts N l, u .counts N n l, r .counts N n l, met-next j N);
         }
 

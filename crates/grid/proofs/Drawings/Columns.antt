@@ -29,7 +29,7 @@ pub record Column (t P Q : ℕ) (L U R : ℕ → ℕ) : Type 0 where
 
 -- A COLUMN BEHIND k OTHERS
 
-module _ (t k : ℕ) (D U R : List ℕ) (size : length D ≡ k * (2 * t + 1)) (high : length U ≡ t + 1) (wide : length R ≡ t) where
+module _ (t k : ℕ) (D U R : List ℕ) (size : length D ≡ k * (2 * t + 1)) (high : length U ≡ t + 1) (along : length R ≡ t) where
   -- the others are as they were
   column-old : (x : ℕ) → x < k → columnOf (D ++ (U ++ R)) t x ≡ columnOf D t x
   column-old x p =
@@ -95,14 +95,14 @@ module _ (top bottom : List ℕ) (t : ℕ) where
       → Column t (getD top k 0) (getD bottom k 0) (λ j. getD l j 0) (λ y. getD U y 0) (λ j. getD R j 0)
       → Lives k (λ j. getD l j 0)
       → Drawn (suc k) (D ++ (U ++ R)) R
-  more {k} {D} {l} U R d high wide col live =
+  more {k} {D} {l} U R d high along col live =
       record {
         size = rw (length-append, length-append) (omega (arith, d .size));
-        gap = λ j. ap (λ (f : ℕ → ℕ). f j) (h-new t k D U R (d .size) high wide);
+        gap = λ j. ap (λ (f : ℕ → ℕ). f j) (h-new t k D U R (d .size) high along);
         column =
-            each t k D U R (d .size) high wide (λ x L u r. Column t (getD top x 0) (getD bottom x 0) L u r) (d .column)
+            each t k D U R (d .size) high along (λ x L u r. Column t (getD top x 0) (getD bottom x 0) L u r) (d .column)
             (subst (λ (L : ℕ → ℕ). Column t (getD top k 0) (getD bottom k 0) L (λ y. getD U y 0) (λ j. getD R j 0)) (sym (fun-ext (d .gap))) col);
-        lives = each t k D U R (d .size) high wide (λ x L u r. Lives x L) (d .lives) (subst (λ (L : ℕ → ℕ). Lives k L) (sym (fun-ext (d .gap))) live);
+        lives = each t k D U R (d .size) high along (λ x L u r. Lives x L) (d .lives) (subst (λ (L : ℕ → ℕ). Lives k L) (sym (fun-ext (d .gap))) live);
       }
 
   -- THE WHOLE: all w columns are drawn, and the gap after them is empty

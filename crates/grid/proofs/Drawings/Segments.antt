@@ -182,16 +182,16 @@ module _ {t : ℕ} {s : Segments} {L R : ℕ → ℕ} {N : ℕ} (o : Ordered t s
       record {
         covers = λ y p q. at y p q (decLt y (s .low)) (decLt y (s .high));
         runs = record {
-          onBottom = λ e p. (⊎-elim (λ d. omega arith) (λ d. absurd (d .1 e)) l, omega (arith, wide));
-          onMiddle = λ e p. wide;
-          onTop = λ e p. (omega (arith, wide), ⊎-elim (λ d. omega arith) (λ d. absurd (d .1 e)) h);
+          onBottom = λ e p. (⊎-elim (λ d. omega arith) (λ d. absurd (d .1 e)) l, omega (arith, spread));
+          onMiddle = λ e p. spread;
+          onTop = λ e p. (omega (arith, spread), ⊎-elim (λ d. omega arith) (λ d. absurd (d .1 e)) h);
         };
-        ins = λ j e. omega (arith, ins j e, wide);
-        outs = λ j e. omega (arith, outs j e, wide);
+        ins = λ j e. omega (arith, ins j e, spread);
+        outs = λ j e. omega (arith, outs j e, spread);
       }
     where
-      wide : (lo ≤ s .start) × (s .stop ≤ hi)
-      wide = (⊎-elim (λ d. omega arith) (λ d. omega arith) l, ⊎-elim (λ d. omega arith) (λ d. omega arith) h)
+      spread : (lo ≤ s .start) × (s .stop ≤ hi)
+      spread = (⊎-elim (λ d. omega arith) (λ d. omega arith) l, ⊎-elim (λ d. omega arith) (λ d. omega arith) h)
 
       at : (y : ℕ) → lo ≤ y → y < hi → Dec (y < s .low) → Dec (y < s .high) → InRun t s N y
       at y p q (yes a) b = ⊎-elim (λ d. (0, s .low, bottomRun (d .1), zero-le, a)) (λ d. absurd (omega arith)) l

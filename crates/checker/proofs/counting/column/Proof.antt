@@ -3,7 +3,7 @@ use Prim.Native.Nat.{_≤_, _-_}
 use mathlib.Core.Path.{refl}
 use native.Mathlib.Omega.{arith}
 use Rattle.checker.specs.Working.{State}
-use Rattle.checker.proofs.counting.Counts.{per-net-wide}
+use Rattle.checker.proofs.counting.Counts.{per-net-mono}
 use Rattle.checker.proofs.counting.Positions.{room}
 use Rattle.checker.proofs.counting.Crossing.{crossings-state}
 use Rattle.checker.proofs.counting.Pass.{small-base, begin-state, end-state}
@@ -28,7 +28,7 @@ shared-slice-read-begin c = omega (arith, room _ _ _ _ (c .before .before .befor
 begin-requires : tie.Need-begin-requires Inv-loop μ-loop
 begin-requires c κs =
     let s = c .before .before .before .pre in
-    (s .0 .within .nets _, per-net-wide _ _ _ (s .1 .1 .fits) (omega (arith, small-base _ _ _ _ (s .0))))
+    (s .0 .within .nets _, per-net-mono _ _ _ (s .1 .1 .fits) (omega (arith, small-base _ _ _ _ (s .0))))
 
 loop-holds : tie.Need-loop-holds Inv-loop μ-loop
 loop-holds c =

@@ -5,7 +5,7 @@ use native.Mathlib.Omega.{arith}
 use lib.ListN.{replicate, length-replicate, getD-replicate}
 use Rattle.checker.specs.Working.{PerNet}
 use Rattle.checker.proofs.Least.{least-same}
-use Rattle.checker.proofs.counting.Counts.{per-net-wide}
+use Rattle.checker.proofs.counting.Counts.{per-net-mono}
 use Rattle.checker.proofs.counting.Positions.{within-short}
 use Rattle.checker.proofs.counting.Splits.{in-pieces-split}
 use Rattle.checker.proofs.counting.find_split.Statement.{statement}
@@ -21,7 +21,7 @@ count-pieces-requires c κs = (c .before .before .before .pre, (blank, blank))
 find-in-pieces-requires : tie.Need-find-in-pieces-requires
 find-in-pieces-requires c κs =
     let d = c .before .before .before .before .before .before .pre in
-    per-net-wide _ _ _ (c .before .before .count-pieces .ensures .fits′) (omega (arith, within-short _ _ _ d))
+    per-net-mono _ _ _ (c .before .before .count-pieces .ensures .fits′) (omega (arith, within-short _ _ _ d))
 
 returns : tie.Need-returns
 returns c =

@@ -1,10 +1,10 @@
--- `checker::meeting::up` meets its contract: the upper edge of a point.
+-- `checker::meeting::label_up` meets its contract: the upper edge of a point.
 use native.Mathlib.Omega.{arith}
 use Rattle.checker.proofs.counting.Positions.{small-right, net-small}
 use Rattle.checker.proofs.counting.Step.{up-given}
 use borrow.Author.Needs.{needs}
-use Rattle.checker.proofs.meeting.up.Statement.{statement}
-use Rattle.checker.proofs.meeting.up.Tie as tie
+use Rattle.checker.proofs.meeting.label_up.Statement.{statement}
+use Rattle.checker.proofs.meeting.label_up.Tie as tie
 
 add-u : tie.Need-add-u
 add-u c =
@@ -39,7 +39,7 @@ returns c =
     (c .before .before .before .choose .ensures)
     (c .before .before .choose2 .ensures) _ _ (c .begin .ensures)
 
-pub up-spec : {M : Type 1} → statement M
-up-spec =
+pub label-up-spec : {M : Type 1} → statement M
+label-up-spec =
     tie.close
     (tie.spec add-u add-u-2 cast-u choose-requires choose-requires-2 begin-requires returns)

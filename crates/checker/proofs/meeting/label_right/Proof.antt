@@ -1,10 +1,10 @@
--- `checker::meeting::right` meets its contract: the right edge of a point.
+-- `checker::meeting::label_right` meets its contract: the right edge of a point.
 use native.Mathlib.Omega.{arith}
 use Rattle.checker.proofs.counting.Positions.{small-right, net-small}
 use Rattle.checker.proofs.counting.Step.{right-given}
 use borrow.Author.Needs.{needs}
-use Rattle.checker.proofs.meeting.right.Statement.{statement}
-use Rattle.checker.proofs.meeting.right.Tie as tie
+use Rattle.checker.proofs.meeting.label_right.Statement.{statement}
+use Rattle.checker.proofs.meeting.label_right.Tie as tie
 
 add-r : tie.Need-add-r
 add-r c =
@@ -48,8 +48,8 @@ returns c =
     (c .before .before .before .before .choose .ensures) (c .before .before .before .choose2 .ensures)
     (c .before .before .choose3 .ensures) _ _ (c .begin .ensures)
 
-pub right-spec : {M : Type 1} → statement M
-right-spec =
+pub label-right-spec : {M : Type 1} → statement M
+label-right-spec =
     tie.close
     (tie.spec
     add-r

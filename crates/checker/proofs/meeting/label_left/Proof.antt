@@ -1,11 +1,11 @@
--- `checker::meeting::left` meets its contract: the left edge of a point.
+-- `checker::meeting::label_left` meets its contract: the left edge of a point.
 use native.Mathlib.Omega.{arith}
 use mathlib.Core.Path.{refl}
 use Rattle.checker.proofs.counting.Positions.{net-small}
 use Rattle.checker.proofs.counting.Step.{left-given}
 use borrow.Author.Needs.{needs}
-use Rattle.checker.proofs.meeting.left.Statement.{statement}
-use Rattle.checker.proofs.meeting.left.Tie as tie
+use Rattle.checker.proofs.meeting.label_left.Statement.{statement}
+use Rattle.checker.proofs.meeting.label_left.Tie as tie
 
 mul-ll : tie.Need-mul-ll
 mul-ll c =
@@ -37,7 +37,7 @@ returns c =
     (c .before .before .before .before .choose .ensures) _ _ _
     (c .before .before .merge .ensures) (c .join .ensures)
 
-pub left-spec : {M : Type 1} → statement M
-left-spec =
+pub label-left-spec : {M : Type 1} → statement M
+label-left-spec =
     tie.close
     (tie.spec mul-ll element-copy-out-ll choose-requires merge-requires join-requires returns)
