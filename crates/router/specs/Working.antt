@@ -10,7 +10,7 @@ use Rattle.grid.specs.Channel.{pick, left, family}
 use Rattle.grid.specs.Working.{ByNet}
 use Rattle.grid.specs.declared.Family.{Family}
 use Rattle.grid.specs.declared.Family.the-variants.{TwoPin, ManyPin}
-use Rattle.sets.specs.Member.{member, Least}
+use Rattle.sets.specs.Member.{member, LowestFrom}
 use Rattle.sweep.specs.declared.Action.{Action}
 use Rattle.sweep.specs.declared.Pin.{Pin}
 use Rattle.sweep.specs.declared.Free.{Free}
@@ -122,7 +122,7 @@ MarksThree last number c fam x y z s w s′ w′ =
 -- r is the lowest member of s from a up, 0 where there is none
 pub record Next (s : List ℕ) (a r : ℕ) : Type 0 where
   pub place : ℕ
-  pub least : Least s a place
+  pub least : LowestFrom s a place
   pub is : r ≡ place % 512
 
 -- v is the lowest member of s, or where there is none the lowest of w, 0 where there is none

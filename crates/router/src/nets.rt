@@ -16,7 +16,7 @@ ghost use Rattle.router.specs.Working.{tracksIn, Frees, LowsAndHighs, Ne
 pub(crate) fn free_tracks(free: &[u64; 8]) -> Free
     ensures { λ r. ⌜ ((t : ℕ) (a : List ℕ) → t ≤ 511 → length a ≡ 512 → Frees t a (now (free .entry)) → r ≡ freeOf (tracksIn t a)) ⌝ }
 {
-    let f = sets::least(free) % 512;
+    let f = sets::lowest_member(free) % 512;
     let g = sets::above(free, f) % 512;
     Free {
         first: f as u16,
@@ -28,7 +28,7 @@ pub(crate) fn free_tracks(free: &[u64; 8]) -> Free
 pub(crate) fn lowest_net(s: &[u64; 8]) -> u16
     ensures { λ r. ⌜ Next (now (s .entry)) 0 r ⌝ }
 {
-    (sets::least(s) % 512) as u16
+    (sets::lowest_member(s) % 512) as u16
 }
 
 // The lowest net of a set above net v, 0 where there is none.

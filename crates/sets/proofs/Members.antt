@@ -12,7 +12,7 @@ use lib.Dec.{eqb}
 use lib.Bits.{bitAnd, bitOr}
 use lib.Pow.{pow-lt, shr-le, shr-shr}
 use lib.Count.{trailingZeros}
-use Rattle.sets.specs.Member.{digit, member, Put, Clear, Least}
+use Rattle.sets.specs.Member.{digit, member, Put, Clear, LowestFrom}
 use Rattle.sets.proofs.Digits.{digit-lt, zero-digit, shr-digit, or-digit, and-digit, pow-digit-same, pow-digit-other, not-digit, trailing-one, trailing-zero, high-digit}
 
 -- a word that is v in the place of the one that has k
@@ -98,7 +98,7 @@ module _ (s : List ℕ) (w m : ℕ) (le : m ≤ 64) where
   rest-none e k a b = rest-at k a b ∙ ap (λ (x : ℕ). eqb (digit x (k - (w * 64 + m))) 1) e ∙ ap (λ (d : ℕ). eqb d 1) (zero-digit (k - (w * 64 + m)))
 
   -- else the lowest is at its trailing zeros
-  rest-some : getD s w 0 < 2 ^ 64 → 0 < getD s w 0 / 2 ^ m → w < 8 → Least s (w * 64 + m) (w * 64 + m + trailingZeros 64 (getD s w 0 / 2 ^ m))
+  rest-some : getD s w 0 < 2 ^ 64 → 0 < getD s w 0 / 2 ^ m → w < 8 → LowestFrom s (w * 64 + m) (w * 64 + m + trailingZeros 64 (getD s w 0 / 2 ^ m))
   rest-some f p h =
       let x = getD s w 0 in
       let y = x / 2 ^ m in
@@ -120,11 +120,11 @@ clear-more s {a} {b} {c} h o k p q = go (decLt k b)
     go (no n) = o k (omega arith) q
 
 -- then the lowest from b on is the lowest from a on
-pub lower : {s : List ℕ} {a b r : ℕ} → a ≤ b → Clear s a b → Least s b r → Least s a r
+pub lower : {s : List ℕ} {a b r : ℕ} → a ≤ b → Clear s a b → LowestFrom s b r → LowestFrom s a r
 lower {s} l h o = record { low = omega arith; high = o .high; found = o .found; below = clear-more s h (o .below) }
 
 -- no member at all from a on
-pub nothing : {s : List ℕ} {a : ℕ} → a ≤ 512 → Clear s a 512 → Least s a 512
+pub nothing : {s : List ℕ} {a : ℕ} → a ≤ 512 → Clear s a 512 → LowestFrom s a 512
 nothing l h = record { low = l; high = omega arith; found = λ p. absurd (omega arith); below = h }
 
 -- a whole word, x
@@ -135,7 +135,7 @@ module _ (s : List ℕ) (w x : ℕ) (g : x ≡ getD s w 0) where
   pub word-none : x ≡ 0 → Clear s (w * 64) ((w + 1) * 64)
   word-none e k a b = rest-none s w 0 (omega arith) (whole ∙ e) k (omega arith) (omega arith)
 
-  pub word-some : x < 2 ^ 64 → 0 < x → w < 8 → Least s (w * 64) (w * 64 + trailingZeros 64 x)
+  pub word-some : x < 2 ^ 64 → 0 < x → w < 8 → LowestFrom s (w * 64) (w * 64 + trailingZeros 64 x)
   word-some f p h = rw (whole, add-zero) at (rest-some s w 0 (omega arith) (rw g at f) (rw (sym whole) at p) h)
 
 -- what is left of k's word, x, above k
@@ -146,7 +146,7 @@ module _ (s : List ℕ) (k w b x : ℕ) (h : k < 512) (e : w ≡ k / 64) (f : b 
   pub above-none : x / 2 ^ b / 2 ≡ 0 → Clear s (k + 1) ((w + 1) * 64)
   above-none z j p q = rest-none s w (b + 1) (omega arith) (left ∙ z) j (omega arith) (omega arith)
 
-  pub above-some : x < 2 ^ 64 → 0 < x / 2 ^ b / 2 → Least s (k + 1) (k + 1 + trailingZeros 64 (x / 2 ^ b / 2))
+  pub above-some : x < 2 ^ 64 → 0 < x / 2 ^ b / 2 → LowestFrom s (k + 1) (k + 1 + trailingZeros 64 (x / 2 ^ b / 2))
   above-some z p =
       let at : w * 64 + (b + 1) ≡ k + 1 = omega arith in
       rw (at, left) at (rest-some s w (b + 1) (omega arith) (rw g at z) (rw (sym left) at p) (omega arith))

@@ -24,7 +24,7 @@ abbrev pub Clear : List ℕ → ℕ → ℕ → Type 0
 Clear s a b = (k : ℕ) → a ≤ k → k < b → member s k ≡ false
 
 -- r is the lowest member of s that is at least a, or 512 where there is none
-pub record Least (s : List ℕ) (a r : ℕ) : Type 0 where
+pub record LowestFrom (s : List ℕ) (a r : ℕ) : Type 0 where
   pub low : a ≤ r
   pub high : r ≤ 512
   pub found : r < 512 → member s r ≡ true

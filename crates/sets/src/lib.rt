@@ -3,7 +3,7 @@ ghost use mathlib.Core.Path.{_≡_};
 ghost use mathlib.Core.Bool.{false, true};
 ghost use Prim.Native.Nat.{ℕ, _+_, _*_, _/_, _%_, _<_, _≤_};
 ghost use lib.ListN.{length, getD};
-ghost use Rattle.sets.specs.Member.{member, Put, Least};
+ghost use Rattle.sets.specs.Member.{member, Put, LowestFrom};
 
 // The word that holds the number k, and its bit there.
 fn word_of(k: usize) -> usize
@@ -63,7 +63,7 @@ pub fn put(s: &mut [u64; 8], k: usize, b: bool)
 // The lowest member of the words from i on, by the trailing zeros of the first of them that is not 0; 512 where there is none.
 fn from_word(s: &[u64; 8], i: usize) -> usize
     requires { ⌜ i ≤ 8 ⌝ }
-    ensures { λ r. ⌜ Least (now (s .entry)) (i * 64) r ⌝ }
+    ensures { λ r. ⌜ LowestFrom (now (s .entry)) (i * 64) r ⌝ }
 {
     let mut w = i;
     while w < 8 {
@@ -77,15 +77,15 @@ fn from_word(s: &[u64; 8], i: usize) -> usize
 }
 
 // The lowest member, or 512 where there is none.
-pub fn least(s: &[u64; 8]) -> usize
-    ensures { λ r. ⌜ Least (now (s .entry)) 0 r ⌝ }
+pub fn lowest_member(s: &[u64; 8]) -> usize
+    ensures { λ r. ⌜ LowestFrom (now (s .entry)) 0 r ⌝ }
 {
     from_word(s, 0)
 }
 
 // The lowest member above k, or 512 where there is none.
 pub fn above(s: &[u64; 8], k: usize) -> usize
-    ensures { λ r. ⌜ Least (now (s .entry)) (k % 512 + 1) r ⌝ }
+    ensures { λ r. ⌜ LowestFrom (now (s .entry)) (k % 512 + 1) r ⌝ }
 {
     let w = word_of(k);
     let x = word(s, w) >> bit_of(k) >> 1;

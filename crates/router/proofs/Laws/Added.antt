@@ -13,7 +13,7 @@ use lib.ListN.{length, take, drop, getD, length-append, take-append-drop}
 use lib.Seq.{take-at, drop-at, drop-drop, length-take-le, drop-append-add}
 use Rattle.grid.specs.Channel.{pick, bit, sum, count}
 use Rattle.grid.proofs.Tests.{and-true}
-use Rattle.sets.specs.Member.{member, Least}
+use Rattle.sets.specs.Member.{member, LowestFrom}
 use Rattle.sweep.specs.declared.Action.{Action}
 use Rattle.sweep.specs.Tracks.{clear, verticals}
 use Rattle.sweep.specs.Drawing.{gap, drawn, rest, joining, remains, added, width, layout}
@@ -188,7 +188,7 @@ module _ {t n : ℕ} {g l₀ : List ℕ} (s : List ℕ) (rem : Remaining g s) {k
       p : ℕ
       p = nx .place
 
-      o : Least s b p
+      o : LowestFrom s b p
       o = nx .least
 
       clearly : (x : ℕ) → k < x → x < p → member s x ≡ false

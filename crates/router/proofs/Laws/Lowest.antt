@@ -7,7 +7,7 @@ use mathlib.Core.Logic.{⊎-elim}
 use native.Mathlib.Omega.{arith}
 use lib.ListN.{length, getD}
 use Rattle.grid.specs.Channel.{pick}
-use Rattle.sets.specs.Member.{member, Least}
+use Rattle.sets.specs.Member.{member, LowestFrom}
 use Rattle.sweep.specs.Tracks.{lesser, lowestNet, many}
 use Rattle.router.specs.Working.{Next}
 use Rattle.grid.proofs.Counting.{holds-times, times-at}
@@ -69,7 +69,7 @@ lowest-net p tr s r m n = n .is ∙ ⊎-elim some none (below-or (n .place) 512)
     k : ℕ
     k = n .place
 
-    o : Least s 0 k
+    o : LowestFrom s 0 k
     o = n .least
 
     some : k < 512 → k % 512 ≡ lowestNet p tr

@@ -13,7 +13,7 @@ use lib.ListN.{length, getD, drop, List·getD-eq-default}
 use lib.Seq.{getD-drop}
 use Rattle.grid.specs.Channel.{pick}
 use Rattle.grid.specs.declared.Family.{Family}
-use Rattle.sets.specs.Member.{member, Put, Least}
+use Rattle.sets.specs.Member.{member, Put, LowestFrom}
 use Rattle.sweep.specs.declared.Free.{Free}
 use Rattle.sweep.specs.Tracks.{strandsFrom, strands, first, lowest, second}
 use Rattle.sweep.specs.Drawing.{freeOf}
@@ -66,7 +66,7 @@ module _ (t : ℕ) (a s : List ℕ) (l : t ≤ 511) (z : length a ≡ 512) (f : 
   each-drop k i = ap (λ (x : ℕ). eqb x 0) (getD-drop k (tracksIn t a) i 1) ∙ sym (each (k + i))
 
   -- the lowest member above k, q: the free tracks above track k
-  above-some : (k q : ℕ) → Least s (k + 1) q → q < 512
+  above-some : (k q : ℕ) → LowestFrom s (k + 1) q → q < 512
       → strandsFrom (suc k) 0 (drop k (tracksIn t a)) ≡ q ∷ strandsFrom (suc q) 0 (drop (suc (q - suc k)) (drop k (tracksIn t a)))
   above-some k q o h =
       next-at (drop k (tracksIn t a)) (suc k) (q - suc k)
@@ -75,7 +75,7 @@ module _ (t : ℕ) (a s : List ℕ) (l : t ≤ 511) (z : length a ≡ 512) (f : 
       ∙ ap (λ (y : ℕ). y ∷ strandsFrom (suc y) 0 (drop (suc (q - suc k)) (drop k (tracksIn t a)))) (omega (arith, o .low))
 
   -- none above track k
-  above-none : (k : ℕ) → Least s (k + 1) 512 → strandsFrom (suc k) 0 (drop k (tracksIn t a)) ≡ []
+  above-none : (k : ℕ) → LowestFrom s (k + 1) 512 → strandsFrom (suc k) 0 (drop k (tracksIn t a)) ≡ []
   above-none k o = next-none (drop k (tracksIn t a)) (suc k) (λ j. go j (decLt (suc (k + j)) 512))
     where
       go : (j : ℕ) → Dec (suc (k + j) < 512) → eqb (getD (drop k (tracksIn t a)) j 1) 0 ≡ false
@@ -83,7 +83,7 @@ module _ (t : ℕ) (a s : List ℕ) (l : t ≤ 511) (z : length a ≡ 512) (f : 
       go j (no n) = each-drop k j ∙ f .past (suc (k + j)) (omega arith)
 
   -- the lowest free track above track k
-  above-first : (k q : ℕ) → Least s (k + 1) q → q % 512 ≡ first (strandsFrom (suc k) 0 (drop k (tracksIn t a)))
+  above-first : (k q : ℕ) → LowestFrom s (k + 1) q → q % 512 ≡ first (strandsFrom (suc k) 0 (drop k (tracksIn t a)))
   unfolding first
   above-first k q o = go (decLt q 512)
     where
@@ -94,28 +94,28 @@ module _ (t : ℕ) (a s : List ℕ) (l : t ≤ 511) (z : length a ≡ 512) (f : 
           ap (λ (x : ℕ). x % 512) e ∙ ap first (sym (above-none k (rw e at o)))
 
   -- 0 is no track
-  from-one : (r : ℕ) → Least s 0 r → Least s 1 r
+  from-one : (r : ℕ) → LowestFrom s 0 r → LowestFrom s 1 r
   from-one r o = record { low = go r o; high = o .high; found = o .found; below = λ k a b. o .below k (omega arith) b }
     where
-      go : (r : ℕ) → Least s 0 r → 1 ≤ r
+      go : (r : ℕ) → LowestFrom s 0 r → 1 ≤ r
       go zero o = absurd (not-both (o .found (omega arith)) (f .none))
       go (suc r) o = omega arith
 
   -- the lowest member and the lowest above it, 0 where there is none
-  pub free-two : (r q : ℕ) → Least s 0 r → Least s (r % 512 % 512 + 1) q → _≡_ {A = Free} (record { first = r % 512; second = q % 512 }) (freeOf (tracksIn t a))
+  pub free-two : (r q : ℕ) → LowestFrom s 0 r → LowestFrom s (r % 512 % 512 + 1) q → _≡_ {A = Free} (record { first = r % 512; second = q % 512 }) (freeOf (tracksIn t a))
   unfolding freeOf lowest second strands first
   free-two r q o u = λ i. record { first = above-first 0 r (from-one r o) i; second = go (decLt r 512) i }
     where
       go : Dec (r < 512) → q % 512 ≡ first (drop 1 (strandsFrom 1 0 (tracksIn t a)))
       go (yes h) =
           let m : r % 512 % 512 ≡ r = omega arith in
-          let v : Least s (r + 1) q = rw m at u in
+          let v : LowestFrom s (r + 1) q = rw m at u in
           let e : suc (r - 1) ≡ r = omega (arith, from-one r o .low) in
           above-first r q v ∙ ap (λ (n : ℕ). first (strandsFrom (suc r) 0 (drop n (tracksIn t a)))) (sym e)
           ∙ ap (λ (x : List ℕ). first (drop 1 x)) (sym (above-some 0 r (from-one r o) h))
       go (no n) =
           let e : r ≡ 512 = omega (arith, o .high) in
-          let v : Least s 1 q = rw e at u in
+          let v : LowestFrom s 1 q = rw e at u in
           let w : strandsFrom 1 0 (tracksIn t a) ≡ [] = above-none 0 (from-one 512 (rw e at o)) in
           above-first 0 q v ∙ ap first w ∙ ap (λ (x : List ℕ). first (drop 1 x)) (sym w)
 
