@@ -1,9 +1,9 @@
 // The columns added after column n.
-use crate::actions;
 use crate::index;
 use crate::nets;
 use crate::writer;
 use grid::Segments;
+use rules::actions;
 use sweep::Action;
 ghost use mathlib.Core.Path.{_≡_};
 ghost use Prim.Native.Nat.{_+_, _*_, _<_, _≤_};

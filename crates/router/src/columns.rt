@@ -1,11 +1,12 @@
 // The columns 1 to n.
-use crate::actions;
 use crate::choose;
 use crate::index;
 use crate::nets;
 use crate::pins;
 use crate::writer;
 use grid::Family;
+use rules::actions;
+use rules::many_pin;
 use sweep::Action;
 use sweep::Joint;
 use sweep::Pin;
@@ -56,7 +57,7 @@ fn pair_column(
         (tracksIn t (now (tracks .entry))) c r ⌝ }
 {
     if (a.net != 0) & (a.net == b.net) {
-        return actions::go_full(t as u16, a.net, 0);
+        return actions::go_full(t as u16 + 1, a.net, 0);
     }
     match 4 * a.kind + b.kind {
         0 => actions::go_straight(),
@@ -120,7 +121,7 @@ fn column_at(
             let f = nets::free_tracks(free);
             let v = nets::net_to_join(extended, wide);
             let n = nets::joint_at(tracks, last, low, high, t, k, v);
-            choose::choose_many(t as u16, a, b, f, n, pins::later_than(last, k, p))
+            many_pin::choose_many(t as u16 + 1, a, b, f, n, pins::later_than(last, k, p))
         }
     }
 }

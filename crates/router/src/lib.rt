@@ -1,5 +1,4 @@
 // The router: rows and a lent slice in, a drawing on d or 2d - 1 tracks out.
-mod actions;
 mod added;
 mod choose;
 mod columns;

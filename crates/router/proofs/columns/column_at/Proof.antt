@@ -1,7 +1,7 @@
 -- `column_at` meets its contract, by `column-is` and `column-many-is`.
 use Rattle.router.proofs.Laws.Sweeps
 use Rattle.router.specs.Working.{narrow}
-use mathlib.Core.Path.{ap}
+use mathlib.Core.Path.{refl, ap}
 use native.Mathlib.Omega.{arith}
 use borrow.Author.Needs.{needs}
 use Rattle.router.proofs.columns.column_at.Statement.{statement}
@@ -91,13 +91,11 @@ later-than-requires c κs =
     let o = c .before .before .before .before .before .before .before .before .before .before .before in
     (omega (arith, o .pre .0, o .pre .1 .0 .most), o .pre .1 .0 .tops (o .args .c))
 
+add-choose-many : tie.Need-add-choose-many
+add-choose-many c = omega (arith, c .before .before .before .before .before .before .before .before .before .before .before .pre .1 .0 .fits)
+
 choose-many-requires : tie.Need-choose-many-requires
-choose-many-requires c κs =
-    let e = c .before .before .before .before .before .before in
-    let a = e .before .before .pin-at in
-    let b = e .pin-at2 in
-    let o = e .before .before .before .before .before .before in
-    (o .pre .1 .0 .fits, Sweeps.pin-kind _ _ _ _ _ _ _ (a .result) (a .ensures), Sweeps.pin-kind _ _ _ _ _ _ _ (b .result) (b .ensures))
+choose-many-requires c κs = search needs
 
 returns-2 : tie.Need-returns-2
 returns-2 c =
@@ -110,7 +108,7 @@ returns-2 c =
     Sweeps.column-many-is (o .args .top .now) (o .args .bottom .now) (o .args .first .now) (o .args .last .now) (o .args .c) (a .result) (b .result) _ h (o .pre .1 .1 .marked)
     (a .ensures) (b .ensures) (e .enum-told2 .given .1) (o .pre .1 .0)
     _ _ _ _ (p .before .free-tracks .ensures (o .args .t) (o .args .tracks .now) (h .fits) (h .sized) (h .frees)) (p .net-to-join .ensures)
-    (c .before .before .joint-at .ensures) (c .before .later-than .ensures) (c .choose-many .ensures)
+    (c .before .before .joint-at .ensures) (c .before .later-than .ensures) (c .choose-many .ensures (o .args .t) refl)
 
 pub column-at-spec : {M : Type 1} → statement M
 column-at-spec =
@@ -130,6 +128,7 @@ column-at-spec =
     net-to-join-requires
     joint-at-requires
     cast-choose-many
+    add-choose-many
     later-than-requires
     choose-many-requires
     returns

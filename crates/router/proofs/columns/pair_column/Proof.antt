@@ -2,7 +2,7 @@
 use Rattle.sweep.proofs.Rules.Kinds.{by-kinds, by-number, idle}
 use Rattle.sweep.specs.TwoPin
 use Rattle.sweep.specs.Rules
-use mathlib.Core.Path.{sym, _∙_}
+use mathlib.Core.Path.{refl, sym, _∙_}
 use native.Mathlib.Omega.{arith}
 use borrow.Author.Needs.{needs}
 use Rattle.router.proofs.columns.pair_column.Statement.{statement}
@@ -11,12 +11,15 @@ use Rattle.router.proofs.columns.pair_column.Tie as tie
 cast-go-full : tie.Need-cast-go-full
 cast-go-full c = omega (arith, c .before .before .before .before .pre .0)
 
+add-go-full : tie.Need-add-go-full
+add-go-full c = omega (arith, c .before .before .before .before .pre .0)
+
 go-full-requires : tie.Need-go-full-requires
-go-full-requires c κs = c .before .before .before .before .pre .0 .3
+go-full-requires c κs = search needs
 
 returns : tie.Need-returns
 unfolding TwoPin.chooseTwo
-returns c N j = simp (c .before .if1 .taken) (c .go-full .ensures)
+returns c N j = simp (c .before .if1 .taken) (c .go-full .ensures _ refl)
 
 mul-match : tie.Need-mul-match
 mul-match c = omega (arith, c .before .before .before .before .before .pre .0)
@@ -135,6 +138,7 @@ pair-column-spec =
     tie.close
     (tie.spec
     cast-go-full
+    add-go-full
     go-full-requires
     returns
     mul-match
