@@ -1,12 +1,12 @@
 -- The numbers of the net report, written from the front, and the table after the call.
-use Prim.Native.Nat.{ℕ, suc, _+_, _*_, _/_, _≤_, _<_}
+use Prim.Native.Nat.{ℕ, _+_, _*_, _/_, _≤_, _<_}
 use mathlib.Core.Path.{_≡_, refl, sym, ap, _∙_}
 use mathlib.Core.Logic.{_≢_}
 use mathlib.Core.List.{List, [], _∷_, _++_, append-assoc}
 use native.Mathlib.Omega.{arith}
 use native.Mathlib.Numerals.{add-one}
 use lib.ListN.{length, take, drop, getD, set, length-append, length-drop}
-use lib.Seq.{drop-cons, append-snoc, set-at, take-suc, take-all, length-take-le}
+use lib.Seq.{take-suc, take-all, length-take-le}
 use Rattle.grid.specs.Channel.{rowsRefused}
 use Rattle.grid.specs.Refusals.{ifAccepted}
 use Rattle.grid.proofs.Answers.{accepted-new, accepted-old}
@@ -14,26 +14,20 @@ use Rattle.report.specs.declared.NetRecord.{NetRecord}
 use Rattle.report.specs.declared.Reported.{Reported}
 use Rattle.report.specs.Report.{numberOf, blankTable, records, refused}
 use Rattle.report.proofs.Answers.{by-rows, by-table, by-none}
-use Rattle.report.proofs.Records.{zeroRecord}
+use Rattle.report.proofs.Records.{zeroRecord, one-more}
 use Rattle.export.specs.Export.{flat, figuresAfter}
 use Rattle.export.specs.Working.{netPut}
 
--- the numbers xs in place of the first j of ys, and one more
-next : (xs ys : List ℕ) (j x : ℕ) → length xs ≡ j → j < length ys → set (xs ++ drop j ys) j x ≡ (xs ++ (x ∷ [])) ++ drop (j + 1) ys
-next xs ys j x e h =
-    ap (λ (l : List ℕ). set (xs ++ l) j x) (drop-cons ys j 0 h) ∙ set-at xs (getD ys j 0) (drop (suc j) ys) x j e
-    ∙ sym (append-snoc xs x (drop (suc j) ys)) ∙ ap (λ (k : ℕ). (xs ++ (x ∷ [])) ++ drop k ys) (sym (add-one j))
-
--- three more
+-- three numbers more
 three : (xs ys : List ℕ) (j x y z : ℕ) → length xs ≡ j → j + 3 ≤ length ys
     → set (set (set (xs ++ drop j ys) j x) (j + 1) y) (j + 2) z ≡ (((xs ++ (x ∷ [])) ++ (y ∷ [])) ++ (z ∷ [])) ++ drop (j + 3) ys
 three xs ys j x y z e h =
     let two : j + 1 + 1 ≡ j + 2 = omega arith in
     let all : j + 2 + 1 ≡ j + 3 = omega arith in
-    ap (λ (l : List ℕ). set (set l (j + 1) y) (j + 2) z) (next xs ys j x e (omega arith))
-    ∙ ap (λ (l : List ℕ). set l (j + 2) z) (next (xs ++ (x ∷ [])) ys (j + 1) y (simp length-append (omega arith)) (omega arith))
+    ap (λ (l : List ℕ). set (set l (j + 1) y) (j + 2) z) (one-more 0 xs ys j e x (omega arith))
+    ∙ ap (λ (l : List ℕ). set l (j + 2) z) (one-more 0 (xs ++ (x ∷ [])) ys (j + 1) (simp length-append (omega arith)) y (omega arith))
     ∙ ap (λ (m : ℕ). set (((xs ++ (x ∷ [])) ++ (y ∷ [])) ++ drop m ys) (j + 2) z) two
-    ∙ next ((xs ++ (x ∷ [])) ++ (y ∷ [])) ys (j + 2) z (simp length-append (omega arith)) (omega arith)
+    ∙ one-more 0 ((xs ++ (x ∷ [])) ++ (y ∷ [])) ys (j + 2) (simp length-append (omega arith)) z (omega arith)
     ∙ ap (λ (m : ℕ). (((xs ++ (x ∷ [])) ++ (y ∷ [])) ++ (z ∷ [])) ++ drop m ys) all
 
 -- the numbers of two tables, one after the other

@@ -9,7 +9,7 @@ use native.Mathlib.Decide.{decLt}
 use lib.Dec.{T, eqb, ltb, leb}
 use lib.ListN.{length, getD, drop-of-length-le}
 use Rattle.grid.specs.Channel.{pick, bit, times, pins, left, right, isOpen}
-use Rattle.grid.specs.Nets.{pinAt, firstTo, lastTo, firstColumn, lastColumn}
+use Rattle.grid.specs.Nets.{isPinned, firstTo, lastTo, firstColumn, lastColumn}
 use Rattle.grid.proofs.Tests.{eq-eqb, ne-eqb, lt-ltb, le-ltb, le-leb, lt-leb, Same, same, diff, sameBy}
 use Rattle.grid.proofs.Rows.{before, left-right, left-suc}
 
@@ -48,7 +48,7 @@ module _ (top bottom : List ℕ) (v : ℕ) where
   pub first-le : (k : ℕ) → firstTo top bottom v k ≤ k
   unfolding firstTo
   first-le zero = omega arith
-  first-le (suc k) = go (pinAt top bottom v k && eqb (firstTo top bottom v k) 0) (first-le k)
+  first-le (suc k) = go (isPinned top bottom v k && eqb (firstTo top bottom v k) 0) (first-le k)
     where
       go : (q : Bool) → firstTo top bottom v k ≤ k → pick q (suc k) (firstTo top bottom v k) ≤ suc k
       go true i = omega arith
@@ -58,7 +58,7 @@ module _ (top bottom : List ℕ) (v : ℕ) where
   last-le : (k : ℕ) → lastTo top bottom v k ≤ k
   unfolding lastTo
   last-le zero = omega arith
-  last-le (suc k) = go (pinAt top bottom v k) (last-le k)
+  last-le (suc k) = go (isPinned top bottom v k) (last-le k)
     where
       go : (q : Bool) → lastTo top bottom v k ≤ k → pick q (suc k) (lastTo top bottom v k) ≤ suc k
       go true i = omega arith
@@ -68,7 +68,7 @@ module _ (top bottom : List ℕ) (v : ℕ) where
   pub first-last : (k : ℕ) → firstTo top bottom v k ≤ lastTo top bottom v k
   unfolding firstTo lastTo
   first-last zero = omega arith
-  first-last (suc k) = go (pinAt top bottom v k) (eqb (firstTo top bottom v k) 0) (first-le k) (first-last k)
+  first-last (suc k) = go (isPinned top bottom v k) (eqb (firstTo top bottom v k) 0) (first-le k) (first-last k)
     where
       go : (q z : Bool) → firstTo top bottom v k ≤ k → firstTo top bottom v k ≤ lastTo top bottom v k
           → pick (q && z) (suc k) (firstTo top bottom v k) ≤ pick q (suc k) (lastTo top bottom v k)
@@ -77,38 +77,38 @@ module _ (top bottom : List ℕ) (v : ℕ) where
       go false z i j = j
 
   -- the first column has a pin of the net
-  pub first-pinned : (c k : ℕ) → firstTo top bottom v k ≡ suc c → pinAt top bottom v c ≡ true
+  pub first-pinned : (c k : ℕ) → firstTo top bottom v k ≡ suc c → isPinned top bottom v c ≡ true
   unfolding firstTo
   first-pinned c zero e = absurd (omega arith)
-  first-pinned c (suc k) e = go (pinAt top bottom v k) refl (eqb (firstTo top bottom v k) 0) e (λ f. first-pinned c k f)
+  first-pinned c (suc k) e = go (isPinned top bottom v k) refl (eqb (firstTo top bottom v k) 0) e (λ f. first-pinned c k f)
     where
-      go : (q : Bool) → pinAt top bottom v k ≡ q → (z : Bool) → pick (q && z) (suc k) (firstTo top bottom v k) ≡ suc c
-          → (firstTo top bottom v k ≡ suc c → pinAt top bottom v c ≡ true) → pinAt top bottom v c ≡ true
-      go true p true f ih = ap (pinAt top bottom v) (let x : c ≡ k = omega arith in x) ∙ p
+      go : (q : Bool) → isPinned top bottom v k ≡ q → (z : Bool) → pick (q && z) (suc k) (firstTo top bottom v k) ≡ suc c
+          → (firstTo top bottom v k ≡ suc c → isPinned top bottom v c ≡ true) → isPinned top bottom v c ≡ true
+      go true p true f ih = ap (isPinned top bottom v) (let x : c ≡ k = omega arith in x) ∙ p
       go true p false f ih = ih f
       go false p z f ih = ih f
 
   -- so has the last
-  pub last-pinned : (c k : ℕ) → lastTo top bottom v k ≡ suc c → pinAt top bottom v c ≡ true
+  pub last-pinned : (c k : ℕ) → lastTo top bottom v k ≡ suc c → isPinned top bottom v c ≡ true
   unfolding lastTo
   last-pinned c zero e = absurd (omega arith)
-  last-pinned c (suc k) e = go (pinAt top bottom v k) refl e (λ f. last-pinned c k f)
+  last-pinned c (suc k) e = go (isPinned top bottom v k) refl e (λ f. last-pinned c k f)
     where
-      go : (q : Bool) → pinAt top bottom v k ≡ q → pick q (suc k) (lastTo top bottom v k) ≡ suc c
-          → (lastTo top bottom v k ≡ suc c → pinAt top bottom v c ≡ true) → pinAt top bottom v c ≡ true
-      go true p f ih = ap (pinAt top bottom v) (let x : c ≡ k = omega arith in x) ∙ p
+      go : (q : Bool) → isPinned top bottom v k ≡ q → pick q (suc k) (lastTo top bottom v k) ≡ suc c
+          → (lastTo top bottom v k ≡ suc c → isPinned top bottom v c ≡ true) → isPinned top bottom v c ≡ true
+      go true p f ih = ap (isPinned top bottom v) (let x : c ≡ k = omega arith in x) ∙ p
       go false p f ih = ih f
 
   module _ (net : v ≢ 0) where
-    pin-at : (k : ℕ) → Pin (pinAt top bottom v k) (left top bottom k v) (left top bottom (suc k) v)
-    unfolding pinAt
+    pin-at : (k : ℕ) → Pin (isPinned top bottom v k) (left top bottom k v) (left top bottom (suc k) v)
+    unfolding isPinned
     pin-at k = one-of (eqb (getD top k 0) v) (eqb (getD bottom k 0) v) (left top bottom k v) (left top bottom (suc k) v) (left-suc top bottom v k net)
 
     -- the first column against the pins up to gap c
     pub first-by : (c k : ℕ) → c ≤ k → FirstSide (left top bottom c v) (firstTo top bottom v k) c
     unfolding firstTo
     first-by c zero h = none (ap (λ (z : ℕ). left top bottom z v) (let x : c ≡ 0 = omega arith in x) ∙ before top bottom v) refl
-    first-by c (suc k) h = ⊎-elim (at (first-by k k (omega arith))) (λ l. go (pinAt top bottom v k) (eqb (firstTo top bottom v k) 0) (sameBy (firstTo top bottom v k) 0) l (first-by c k l)) (up-to c k h)
+    first-by c (suc k) h = ⊎-elim (at (first-by k k (omega arith))) (λ l. go (isPinned top bottom v k) (eqb (firstTo top bottom v k) 0) (sameBy (firstTo top bottom v k) 0) l (first-by c k l)) (up-to c k h)
       where
         go : (p z : Bool) → Same (firstTo top bottom v k) 0 z → c ≤ k → FirstSide (left top bottom c v) (firstTo top bottom v k) c
             → FirstSide (left top bottom c v) (pick (p && z) (suc k) (firstTo top bottom v k)) c
@@ -132,13 +132,13 @@ module _ (top bottom : List ℕ) (v : ℕ) where
         at : FirstSide (left top bottom k v) (firstTo top bottom v k) k → c ≡ suc k → FirstSide (left top bottom c v) (firstTo top bottom v (suc k)) c
         at i e =
             subst (λ (x : ℕ). FirstSide (left top bottom x v) (firstTo top bottom v (suc k)) x) (sym e)
-            (new (pinAt top bottom v k) (pin-at k) (eqb (firstTo top bottom v k) 0) (sameBy (firstTo top bottom v k) 0) (first-le k) i)
+            (new (isPinned top bottom v k) (pin-at k) (eqb (firstTo top bottom v k) 0) (sameBy (firstTo top bottom v k) 0) (first-le k) i)
 
     -- the last column against the pins up to gap c and up to gap k
     last-by : (c k : ℕ) → c ≤ k → LastSide (left top bottom c v) (left top bottom k v) (lastTo top bottom v k) c
     unfolding lastTo
     last-by c zero h = passed (ap (λ (z : ℕ). left top bottom z v) (let x : c ≡ 0 = omega arith in x)) (omega arith)
-    last-by c (suc k) h = ⊎-elim at (λ l. go (pinAt top bottom v k) (pin-at k) l (last-by c k l)) (up-to c k h)
+    last-by c (suc k) h = ⊎-elim at (λ l. go (isPinned top bottom v k) (pin-at k) l (last-by c k l)) (up-to c k h)
       where
         go : (q : Bool) → Pin q (left top bottom k v) (left top bottom (suc k) v) → c ≤ k
             → LastSide (left top bottom c v) (left top bottom k v) (lastTo top bottom v k) c

@@ -12,7 +12,7 @@ use lib.ListN.{length, getD}
 use Rattle.grid.specs.declared.Family.{Family}
 use Rattle.grid.specs.declared.Family.the-variants.{TwoPin, ManyPin}
 use Rattle.grid.specs.Channel.{pick, bit, sum, count, left, right, isOpen, openAt, largest, density, family, tracksOf, tracks}
-use Rattle.grid.specs.Nets.{pinAt, firstColumn, lastColumn, table}
+use Rattle.grid.specs.Nets.{isPinned, firstColumn, lastColumn, table}
 use Rattle.grid.specs.Working.{Rows, netsOn}
 use Rattle.grid.proofs.Tests.{eq-eqb, ne-eqb, lt-ltb, le-ltb, le-leb, lt-leb, bit-most}
 use Rattle.grid.proofs.Counting.{sum-plus, sum-zero}
@@ -104,7 +104,7 @@ largest-none top bottom = refl
 module _ (top bottom first last : List ℕ) (rows : Rows top bottom) (ef : first ≡ table (firstColumn top bottom)) (el : last ≡ table (lastColumn top bottom)) (c : ℕ) where
   -- a net with no pin in column c + 1 neither starts nor ends there
   none-here : (v : ℕ) → v ≢ getD top c 0 → v ≢ getD bottom c 0 → (firstColumn top bottom v ≢ suc c) × (lastColumn top bottom v ≢ suc c)
-  unfolding firstColumn lastColumn pinAt
+  unfolding firstColumn lastColumn isPinned
   none-here v a b =
       let e : (eqb (getD top c 0) v || eqb (getD bottom c 0) v) ≡ false = ap₂ _||_ (ne-eqb (getD top c 0) v (λ y. a (sym y))) (ne-eqb (getD bottom c 0) v (λ y. b (sym y))) in
       ((λ y. subst T (sym (first-pinned top bottom v c (length top) y) ∙ e) tt), (λ y. subst T (sym (last-pinned top bottom v c (length top) y) ∙ e) tt))

@@ -9,7 +9,7 @@ use lib.Dec.{eqb}
 use lib.ListN.{length, getD, set, length-set}
 use lib.Seq.{getD-set-same, getD-set-other, ext-getD}
 use Rattle.grid.specs.Channel.{pick, bit, left, pins}
-use Rattle.grid.specs.Nets.{pinAt, firstTo, lastTo, firstColumn, lastColumn, from, table, zeroTable}
+use Rattle.grid.specs.Nets.{isPinned, firstTo, lastTo, firstColumn, lastColumn, from, table, zeroTable}
 use Rattle.grid.specs.Working.{ByNet, someTo}
 use Rattle.grid.proofs.Tests.{eq-eqb, ne-eqb, Same, same, diff, sameBy, bit-most}
 use Rattle.grid.proofs.Counting.{zeros}
@@ -145,7 +145,7 @@ module _ (top bottom : List ℕ) (i : ℕ) (last counts : List ℕ) (n : Noted t
 
       -- both pins of column i + 1 are noted
       pub noted-column : (l₂ k₂ : List ℕ) → l₂ ≡ set l₁ q c → k₂ ≡ tallied k₁ q → c ≡ i + 1 → p ≡ getD top i 0 → q ≡ getD bottom i 0 → Noted top bottom (i + 1) l₂ k₂
-      unfolding lastTo pinAt
+      unfolding lastTo isPinned
       noted-column l₂ k₂ gl gk ec ep eq = record {
         lasts = record {
           size = ap length twice ∙ simp length-set (n .lasts .size);
@@ -213,15 +213,15 @@ module _ (top bottom : List ℕ) (i : ℕ) (first : List ℕ) (n : NotedAfter to
 
   -- both pins of column i are noted
   pub noted-after-column : (j p q c : ℕ) → i ≡ j + 1 → c ≡ i → p ≤ 256 → q ≤ 256 → p ≡ getD top j 0 → q ≡ getD bottom j 0 → NotedAfter top bottom j (set (set first p c) q c)
-  unfolding firstTo pinAt
+  unfolding firstTo isPinned
   noted-after-column j p q c ei ec hp hq ep eq = record {
     size = simp length-set (n .size);
     firsts = λ v a b.
         ap (λ (x : ℕ). pick (eqb (firstTo top bottom v j) 0) x (firstTo top bottom v j))
         (two-pins first p q c v (omega (arith, n .size)) (omega (arith, n .size))
         ∙ ap₂ (λ (x y : ℕ). pick (eqb x v || eqb y v) c (getD first v 0)) ep eq
-        ∙ ap (λ (x : ℕ). pick (pinAt top bottom v j) x (getD first v 0)) (ec ∙ ei ∙ add-one j))
-        ∙ first-back (pinAt top bottom v j) (eqb (firstTo top bottom v j) 0) (firstTo top bottom v j) (getD first v 0) j (sameBy (firstTo top bottom v j) 0)
+        ∙ ap (λ (x : ℕ). pick (isPinned top bottom v j) x (getD first v 0)) (ec ∙ ei ∙ add-one j))
+        ∙ first-back (isPinned top bottom v j) (eqb (firstTo top bottom v j) 0) (firstTo top bottom v j) (getD first v 0) j (sameBy (firstTo top bottom v j) 0)
         ∙ ap (λ (x : ℕ). pick (eqb (firstTo top bottom v x) 0) (getD first v 0) (firstTo top bottom v x)) (sym (ei ∙ add-one j))
         ∙ n .firsts v a b;
   }

@@ -2,7 +2,7 @@
 -- `lt-ltb` the value of a fact, and so for the others. Assumes nothing.
 use Prim.Native.Nat.{ℕ, _≤_, _<_}
 use mathlib.Core.Path.{_≡_, refl, sym, subst, _∙_}
-use mathlib.Core.Logic.{_⊎_, inl, inr, _≢_}
+use mathlib.Core.Logic.{_⊎_, inl, inr, ⊎-elim, _≢_}
 use mathlib.Core.Bool.{Bool, true, false, _&&_, _||_}
 use native.Mathlib.Omega.{arith}
 use lib.Dec.{T, eqb, ltb}
@@ -39,6 +39,18 @@ belowBy x v = go (ltb x v) refl
     go : (q : Bool) → ltb x v ≡ q → Below x v q
     go true e = below (ltb-true x v e)
     go false e = above (ltb-false x v e)
+
+-- so it is below or not
+pub below-or : (x v : ℕ) → (x < v) ⊎ (v ≤ x)
+below-or x v = go (ltb x v) (belowBy x v)
+  where
+    go : (q : Bool) → Below x v q → (x < v) ⊎ (v ≤ x)
+    go true (below l) = inl l
+    go false (above l) = inr l
+
+-- or below, at or above
+pub before-at-after : (x v : ℕ) → (x < v) ⊎ ((x ≡ v) ⊎ (v < x))
+before-at-after x v = ⊎-elim inl (λ (l : v ≤ x). inr (⊎-elim (λ k. inr k) (λ k. inl (omega arith)) (below-or v x))) (below-or x v)
 
 -- BITS
 

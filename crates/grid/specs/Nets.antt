@@ -8,18 +8,18 @@ use Rattle.grid.specs.Channel.{pick}
 
 module _ (top bottom : List ℕ) where
   -- column k + 1 has a pin of net v
-  unfoldable pub pinAt : ℕ → ℕ → Bool
-  pinAt v k = eqb (getD top k 0) v || eqb (getD bottom k 0) v
+  unfoldable pub isPinned : ℕ → ℕ → Bool
+  isPinned v k = eqb (getD top k 0) v || eqb (getD bottom k 0) v
 
   -- the first of the columns 1 to k with a pin of net v, and 0 where there is none
   unfoldable pub firstTo : ℕ → ℕ → ℕ
   firstTo v zero = 0
-  firstTo v (suc k) = pick (pinAt v k && eqb (firstTo v k) 0) (suc k) (firstTo v k)
+  firstTo v (suc k) = pick (isPinned v k && eqb (firstTo v k) 0) (suc k) (firstTo v k)
 
   -- the last of them, and 0 where there is none
   unfoldable pub lastTo : ℕ → ℕ → ℕ
   lastTo v zero = 0
-  lastTo v (suc k) = pick (pinAt v k) (suc k) (lastTo v k)
+  lastTo v (suc k) = pick (isPinned v k) (suc k) (lastTo v k)
 
   -- the first and the last column of net v
   unfoldable pub firstColumn : ℕ → ℕ

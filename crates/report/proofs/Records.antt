@@ -20,16 +20,15 @@ zeroRecord = record { first = 0; last = 0; pins = 0 }
 
 -- WRITTEN FROM THE FRONT
 
-module _ (xs ys : List NetRecord) (j : ℕ) (e : length xs ≡ j) where
-  -- the records xs in place of the first j of ys, and one more
-  pub next : (r : NetRecord) → j < length ys → set (xs ++ drop j ys) j r ≡ (xs ++ (r ∷ [])) ++ drop (j + 1) ys
-  next r h =
-      ap (λ (l : List NetRecord). set (xs ++ l) j r) (drop-cons ys j zeroRecord h) ∙ set-at xs (getD ys j zeroRecord) (drop (suc j) ys) r j e
-      ∙ sym (append-snoc xs r (drop (suc j) ys)) ∙ ap (λ (k : ℕ). (xs ++ (r ∷ [])) ++ drop k ys) (sym (add-one j))
+-- xs in place of the first j of ys, and one more; d serves for what lies past the end
+pub one-more : {A : Type 0} (d : A) (xs ys : List A) (j : ℕ) → length xs ≡ j → (r : A) → j < length ys → set (xs ++ drop j ys) j r ≡ (xs ++ (r ∷ [])) ++ drop (j + 1) ys
+one-more {A} d xs ys j e r h =
+    ap (λ (l : List A). set (xs ++ l) j r) (drop-cons ys j d h) ∙ set-at xs (getD ys j d) (drop (suc j) ys) r j e
+    ∙ sym (append-snoc xs r (drop (suc j) ys)) ∙ ap (λ (k : ℕ). (xs ++ (r ∷ [])) ++ drop k ys) (sym (add-one j))
 
-  -- the list keeps its length
-  as-long : j ≤ length ys → length (xs ++ drop j ys) ≡ length ys
-  as-long h = simp (length-append, length-drop) (omega arith)
+-- the list keeps its length
+as-long : (xs ys : List NetRecord) (j : ℕ) → length xs ≡ j → j ≤ length ys → length (xs ++ drop j ys) ≡ length ys
+as-long xs ys j e h = simp (length-append, length-drop) (omega arith)
 
 -- the first m records of xs in place of those of ys
 unfoldable pub copied : List NetRecord → ℕ → List NetRecord → List NetRecord
@@ -45,7 +44,7 @@ module _ (xs ys : List NetRecord) where
   pub copied-suc : (m : ℕ) → m < length xs → m < length ys → set (copied xs m ys) m (getD xs m zeroRecord) ≡ copied xs (m + 1) ys
   unfolding copied
   copied-suc m a b =
-      next (take m xs) ys m (length-take-le m xs (omega arith)) (getD xs m zeroRecord) b
+      one-more zeroRecord (take m xs) ys m (length-take-le m xs (omega arith)) (getD xs m zeroRecord) b
       ∙ ap (λ (l : List NetRecord). l ++ drop (m + 1) ys) (sym (take-suc xs m zeroRecord a) ∙ ap (λ (k : ℕ). take k xs) (sym (add-one m)))
 
   -- all
@@ -80,7 +79,7 @@ blank-long = refl
 pub stored : (f : ℕ → NetRecord) (out : List NetRecord) (k : ℕ) (r : NetRecord) → k < 256 → out ≡ upTo f k ++ drop k blankTable → r ≡ f (k + 1)
     → set out k r ≡ upTo f (k + 1) ++ drop (k + 1) blankTable
 stored f out k r h e i =
-    ap (λ (l : List NetRecord). set l k r) e ∙ next (upTo f k) blankTable k (length-upTo f k) r (omega (arith, blank-long))
+    ap (λ (l : List NetRecord). set l k r) e ∙ one-more zeroRecord (upTo f k) blankTable k (length-upTo f k) r (omega (arith, blank-long))
     ∙ ap (λ (x : NetRecord). (upTo f k ++ (x ∷ [])) ++ drop (k + 1) blankTable) i ∙ ap (λ (l : List NetRecord). l ++ drop (k + 1) blankTable) (upTo-suc f k)
 
 -- all

@@ -42,8 +42,8 @@ cases =
     ∷ []
 
 -- what the definitions say of a case's channel and slice
-unfoldable pub reported : Case → Case
-reported c =
+unfoldable pub computed : Case → Case
+computed c =
     let x = answer (c .top) (c .bottom) 256 (c .lent) in
     record { top = c .top; bottom = c .bottom; lent = c .lent; number = numberOf x; figures = figuresOf x }
 
@@ -51,7 +51,7 @@ reported c =
 unfoldable pub computing : Unit {0}
 unfolding Channel.times Channel.over Channel.sum Channel.count Channel.left Channel.right Channel.isOpen Channel.openAt Channel.largest Channel.density
     Channel.pins Channel.pinsWithin Channel.family Channel.tracks Channel.rowsRefused Tracks.strandsFrom Tracks.strands Tracks.first Tracks.last Tracks.lowest Tracks.second
-    Tracks.highest Tracks.many Tracks.lesser Tracks.lowestNet Tracks.give Tracks.clear Tracks.after Segments.segment Tracks.listed Tracks.verticals
+    Tracks.highest Tracks.many Tracks.lesser Tracks.lowestNet Tracks.give Tracks.clear Tracks.after Segments.segment Tracks.valuesFrom Tracks.verticals
     Rules.kindOf Rules.bothEnd TwoPin.joinOr TwoPin.byKinds TwoPin.chooseTwo ManyPin.topContinues ManyPin.bottomContinues ManyPin.bothContinue
     ManyPin.byKinds ManyPin.bothPins ManyPin.chooseMany Drawing.freeOf Drawing.later Drawing.pinAt Drawing.extendedAt Drawing.wideAt Drawing.extendedNet
     Drawing.netToJoin Drawing.jointOf Drawing.actionOf Drawing.action Drawing.gap Drawing.drawn Drawing.remains Drawing.rest Drawing.joining Drawing.added Drawing.width
@@ -59,8 +59,8 @@ unfolding Channel.times Channel.over Channel.sum Channel.count Channel.left Chan
 computing = tt
 
 -- every case is as the definitions have it
-pub cases-hold : map reported cases ≡ cases
-unfolding computing cases reported
+pub cases-hold : map computed cases ≡ cases
+unfolding computing cases computed
 cases-hold = refl
 
 -- the layout of case D, column by column

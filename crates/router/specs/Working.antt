@@ -25,13 +25,13 @@ abbrev pub tracksIn : ℕ → List ℕ → List ℕ
 tracksIn t a = take t (drop 1 a)
 
 -- what the end of net v leaves of a track that holds x
-abbrev pub swept : ℕ → ℕ → ℕ
-swept v x = pick (eqb x v) 0 x
+abbrev pub cleared : ℕ → ℕ → ℕ
+cleared v x = pick (eqb x v) 0 x
 
 -- s is d with the strands of net v ended at the indices from a and below y
-pub record Swept (v a y : ℕ) (d s : List ℕ) : Type 0 where
+pub record ClearedFrom (v a y : ℕ) (d s : List ℕ) : Type 0 where
   pub sized : length s ≡ length d
-  pub inside : (i : ℕ) → a ≤ i → i < y → getD s i 0 ≡ swept v (getD d i 0)
+  pub inside : (i : ℕ) → a ≤ i → i < y → getD s i 0 ≡ cleared v (getD d i 0)
   pub outside : (i : ℕ) → (i < a) ⊎ (y ≤ i) → getD s i 0 ≡ getD d i 0
 
 -- no strand of net v lies between the tracks a and b

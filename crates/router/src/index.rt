@@ -6,7 +6,7 @@ ghost use Prim.Native.Nat.{_+_, _<_, _≤_, max};
 ghost use lib.ListN.{length, getD, set};
 ghost use Rattle.sweep.specs.Tracks.{lesser, clear, give, after};
 ghost use Rattle.sweep.specs.Working.{FreeAt, Applies};
-ghost use Rattle.router.specs.Working.{tracksIn, swept, Swept, NoneBetween, Frees, Holds, blank};
+ghost use Rattle.router.specs.Working.{tracksIn, cleared, ClearedFrom, NoneBetween, Frees, Holds, blank};
 
 // The set of t free tracks.
 pub(crate) fn all_free(t: usize) -> [u64; 8]
@@ -25,7 +25,7 @@ pub(crate) fn all_free(t: usize) -> [u64; 8]
 // Ends the strand on track y, if it is one of the net's.
 fn end_at(tracks: &mut [u16; 512], free: &mut [u64; 8], t: usize, y: usize, net: u16)
     requires { ⌜ (0 < y) × (y ≤ t) × (t ≤ 511) × (length (now tracks) ≡ 512) × Frees t (now tracks) (now free) ⌝ }
-    ensures { λ _. ⌜ now (tracks .exit) ≡ set (now (tracks .entry)) y (swept net (getD (now (tracks .entry)) y 0)) ⌝ }
+    ensures { λ _. ⌜ now (tracks .exit) ≡ set (now (tracks .entry)) y (cleared net (getD (now (tracks .entry)) y 0)) ⌝ }
     ensures { λ _. ⌜ Frees t (now (tracks .exit)) (now (free .exit)) ⌝ }
 {
     if tracks[y] == net {
@@ -37,7 +37,7 @@ fn end_at(tracks: &mut [u16; 512], free: &mut [u64; 8], t: usize, y: usize, net:
 // Ends the strands of a net on the tracks a to b.
 fn end_between(tracks: &mut [u16; 512], free: &mut [u64; 8], t: usize, a: u16, b: u16, net: u16)
     requires { ⌜ (0 < a) × (a ≤ b) × (b ≤ t) × (t ≤ 511) × (length (now tracks) ≡ 512) × Frees t (now tracks) (now free) ⌝ }
-    ensures { λ _. ⌜ Swept net a (b + 1) (now (tracks .entry)) (now (tracks .exit)) ⌝ }
+    ensures { λ _. ⌜ ClearedFrom net a (b + 1) (now (tracks .entry)) (now (tracks .exit)) ⌝ }
     ensures { λ _. ⌜ Frees t (now (tracks .exit)) (now (free .exit)) ⌝ }
 {
     let mut y = a as usize;
@@ -60,7 +60,7 @@ fn end_strands(
 )
     requires { ⌜ (0 < a) × (a ≤ b) × (b ≤ t) × (t ≤ 511) × (length (now tracks) ≡ 512) × Frees t (now tracks) (now free) ⌝ }
     requires { ⌜ (0 < net) × (number ≤ 2 → NoneBetween net a b (now tracks)) ⌝ }
-    ensures { λ _. ⌜ Swept net a (b + 1) (now (tracks .entry)) (now (tracks .exit)) ⌝ }
+    ensures { λ _. ⌜ ClearedFrom net a (b + 1) (now (tracks .entry)) (now (tracks .exit)) ⌝ }
     ensures { λ _. ⌜ Frees t (now (tracks .exit)) (now (free .exit)) ⌝ }
 {
     if number <= 2 {

@@ -5,7 +5,7 @@ ghost use mathlib.Core.Path.{_≡_};
 ghost use Prim.Native.Nat.{_+_, _*_, _≤_};
 ghost use lib.ListN.{length, take, drop};
 ghost use mathlib.Core.List.{_++_};
-ghost use Rattle.sweep.specs.Tracks.{listed, verticals};
+ghost use Rattle.sweep.specs.Tracks.{valuesFrom, verticals};
 ghost use Rattle.sweep.specs.Working.{Flat};
 ghost use Rattle.router.specs.Working.{tracksIn, runs, twoRuns};
 
@@ -29,7 +29,7 @@ fn vertical_of_two(k: u16, q: u16, a: u16, p: u16) -> u16
 // Writes the vertical edges of a column with two nets.
 fn write_two(part: &mut [u16], t: usize, q: u16, a: u16, p: u16)
     requires { ⌜ (t ≤ 511) × (length (now part) ≡ 2 * t + 1) ⌝ }
-    ensures { λ _. ⌜ now (part .exit) ≡ listed (t + 1) 0 (twoRuns q a p) ++ drop (t + 1) (now (part .entry)) ⌝ }
+    ensures { λ _. ⌜ now (part .exit) ≡ valuesFrom (t + 1) 0 (twoRuns q a p) ++ drop (t + 1) (now (part .entry)) ⌝ }
 {
     let mut i = 0;
     let mut k = 0u16;
@@ -43,7 +43,7 @@ fn write_two(part: &mut [u16], t: usize, q: u16, a: u16, p: u16)
 // Writes those of a column with three.
 fn write_three(part: &mut [u16], t: usize, q: u16, a: u16, m: u16, b: u16, p: u16)
     requires { ⌜ (t ≤ 511) × (length (now part) ≡ 2 * t + 1) ⌝ }
-    ensures { λ _. ⌜ now (part .exit) ≡ listed (t + 1) 0 (runs q a m b p) ++ drop (t + 1) (now (part .entry)) ⌝ }
+    ensures { λ _. ⌜ now (part .exit) ≡ valuesFrom (t + 1) 0 (runs q a m b p) ++ drop (t + 1) (now (part .entry)) ⌝ }
 {
     let mut i = 0;
     let mut k = 0u16;

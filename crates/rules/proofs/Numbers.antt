@@ -1,6 +1,6 @@
 -- Kinds as numbers, where those over 3 stand for 3.
-use Prim.Native.Nat.{ℕ, zero, suc, _+_, _*_, _/_, _%_, _≤_, min}
-use mathlib.Core.Path.{_≡_, refl, ap, ap₂, _∙_}
+use Prim.Native.Nat.{ℕ, zero, suc, _+_, _*_, _/_, _%_, min}
+use mathlib.Core.Path.{_≡_, ap, ap₂, _∙_}
 use native.Mathlib.Omega.{arith}
 use Rattle.sweep.specs.declared.Action.{Action}
 use Rattle.sweep.specs.Rules.{Kind, kindOf}

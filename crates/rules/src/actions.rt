@@ -9,12 +9,12 @@ ghost use mathlib.Core.Path.{_≡_};
 ghost use Prim.Native.Nat.{ℕ, _+_};
 ghost use lib.Dec.{eqb};
 ghost use Rattle.grid.specs.Channel.{pick};
-ghost use Rattle.sweep.specs.Rules.{pins as pinsOf, goes as goesTo, noTrack, act, straight, full, taken, joinNet};
+ghost use Rattle.sweep.specs.Rules.{pinWires, goes as goesTo, noTrack, act, straight, full, taken, joinNet};
 ghost use Rattle.sweep.specs.Rules.{topTakesFree, bottomTakesFree, bothTakeFree, topEnds, bottomEnds, bothJoin, bothEnd};
 
 // The wires of two pins: the bottom net b up to row q, the top net a down to row p.
-pub fn pins(b: u16, q: u16, a: u16, p: u16) -> Segments
-    ensures { λ r. ⌜ r ≡ pinsOf b q a p ⌝ }
+pub fn pin_wires(b: u16, q: u16, a: u16, p: u16) -> Segments
+    ensures { λ r. ⌜ r ≡ pinWires b q a p ⌝ }
 {
     Segments {
         bottom: b,
@@ -64,14 +64,14 @@ pub fn three_gifts(wires: Segments, ended: u16, g1: Gift, g2: Gift, g3: Gift) ->
 pub fn go_straight() -> Action
     ensures { λ r. ⌜ r ≡ straight ⌝ }
 {
-    one_gift(pins(0, 0, 0, 0), 0, no_track())
+    one_gift(pin_wires(0, 0, 0, 0), 0, no_track())
 }
 
 // Net v from row 0 to the last row, t + 1; it leaves on track y (0: it does not).
 pub fn go_full(last: u16, v: u16, y: u16) -> Action
     ensures { λ r. ⌜ ((t : ℕ) → last ≡ t + 1 → r ≡ full t v y) ⌝ }
 {
-    one_gift(pins(v, last, v, last), v, goes(y, v))
+    one_gift(pin_wires(v, last, v, last), v, goes(y, v))
 }
 
 // Track y for net v, and none where v is 0.
@@ -118,20 +118,20 @@ pub fn join_net(n: Joint, a: u16, b: u16) -> Action
 pub fn top_takes_free(f: Free, a: u16) -> Action
     ensures { λ r. ⌜ r ≡ topTakesFree f a ⌝ }
 {
-    one_gift(pins(0, 0, a, f.first), 0, goes(f.first, a))
+    one_gift(pin_wires(0, 0, a, f.first), 0, goes(f.first, a))
 }
 
 pub fn bottom_takes_free(f: Free, b: u16) -> Action
     ensures { λ r. ⌜ r ≡ bottomTakesFree f b ⌝ }
 {
-    one_gift(pins(b, f.first, 0, f.first), 0, goes(f.first, b))
+    one_gift(pin_wires(b, f.first, 0, f.first), 0, goes(f.first, b))
 }
 
 pub fn both_take_free(f: Free, a: u16, b: u16) -> Action
     ensures { λ r. ⌜ r ≡ bothTakeFree f a b ⌝ }
 {
     three_gifts(
-        pins(b, f.first, a, f.second),
+        pin_wires(b, f.first, a, f.second),
         0,
         goes(f.first, b),
         goes(f.second, a),
@@ -143,7 +143,7 @@ pub fn top_ends(a: Pin, b: Pin) -> Action
     ensures { λ r. ⌜ r ≡ topEnds a b ⌝ }
 {
     one_gift(
-        pins(b.net, a.low, a.net, a.low),
+        pin_wires(b.net, a.low, a.net, a.low),
         a.net,
         goes(track_for(b.net, a.low), b.net),
     )
@@ -153,7 +153,7 @@ pub fn bottom_ends(a: Pin, b: Pin) -> Action
     ensures { λ r. ⌜ r ≡ bottomEnds a b ⌝ }
 {
     one_gift(
-        pins(b.net, b.high, a.net, b.high),
+        pin_wires(b.net, b.high, a.net, b.high),
         b.net,
         goes(track_for(a.net, b.high), a.net),
     )
@@ -164,7 +164,7 @@ pub fn both_join(a: Pin, b: Pin) -> Action
     ensures { λ r. ⌜ r ≡ bothJoin a b ⌝ }
 {
     Action {
-        wires: pins(b.net, b.high, a.net, a.low),
+        wires: pin_wires(b.net, b.high, a.net, a.low),
         ended: a.net,
         closed: b.net,
         gift1: no_track(),

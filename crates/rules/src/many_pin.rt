@@ -15,7 +15,11 @@ ghost use Rattle.sweep.specs.ManyPin.{chooseMany, direct, topContinues, bottomC
 fn go_direct(a: Pin, b: Pin, q: u16, p: u16) -> Action
     ensures { λ r. ⌜ r ≡ direct a b q p 0 0 ⌝ }
 {
-    actions::one_gift(actions::pins(b.net, q, a.net, p), 0, actions::no_track())
+    actions::one_gift(
+        actions::pin_wires(b.net, q, a.net, p),
+        0,
+        actions::no_track(),
+    )
 }
 
 // A continuing top net opposite a starting one, or opposite a continuing one where neither has two strands.
@@ -24,13 +28,13 @@ fn top_continues(a: Pin, b: Pin, f: Free) -> Action
 {
     if f.first < a.high {
         return actions::one_gift(
-            actions::pins(b.net, f.first, a.net, a.high),
+            actions::pin_wires(b.net, f.first, a.net, a.high),
             0,
             actions::goes(f.first, b.net),
         );
     }
     actions::three_gifts(
-        actions::pins(b.net, a.high, a.net, a.high),
+        actions::pin_wires(b.net, a.high, a.net, a.high),
         a.net,
         actions::goes(f.first, a.net),
         actions::goes(a.high, b.net),
@@ -43,13 +47,13 @@ fn bottom_continues(a: Pin, b: Pin, f: Free) -> Action
 {
     if b.low < f.first {
         return actions::one_gift(
-            actions::pins(b.net, b.low, a.net, f.first),
+            actions::pin_wires(b.net, b.low, a.net, f.first),
             0,
             actions::goes(f.first, a.net),
         );
     }
     actions::three_gifts(
-        actions::pins(b.net, b.low, a.net, b.low),
+        actions::pin_wires(b.net, b.low, a.net, b.low),
         b.net,
         actions::goes(f.first, b.net),
         actions::goes(b.low, a.net),
@@ -72,7 +76,7 @@ fn both_continue(a: Pin, b: Pin, f: Free) -> Action
     }
     if a.many == 2 {
         return actions::three_gifts(
-            actions::pins(b.net, a.low, a.net, a.low),
+            actions::pin_wires(b.net, a.low, a.net, a.low),
             a.net,
             actions::goes(a.high, a.net),
             actions::goes(a.low, b.net),
@@ -81,7 +85,7 @@ fn both_continue(a: Pin, b: Pin, f: Free) -> Action
     }
     if b.many == 2 {
         return actions::three_gifts(
-            actions::pins(b.net, b.high, a.net, b.high),
+            actions::pin_wires(b.net, b.high, a.net, b.high),
             b.net,
             actions::goes(b.low, b.net),
             actions::goes(b.high, a.net),

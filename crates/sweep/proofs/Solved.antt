@@ -1,19 +1,16 @@
 -- Every drawing is a solution. For every accepted channel and enough tracks the sweep keeps its invariant in each gap, finds the free tracks that its rules
 -- ask for, and its layout is a solution on these tracks with the width that is reported.
-use Prim.Native.Nat.{ℕ, _+_, _*_, _-_, _≤_, _<_, _/_}
+use Prim.Native.Nat.{ℕ, _+_, _*_, _-_, _≤_, _/_}
 use mathlib.Core.Path.{_≡_}
-use mathlib.Core.Logic.{_⊎_, _≢_}
 use mathlib.Core.List.{List}
 use native.Mathlib.Omega.{arith}
 use lib.ListN.{length}
 use Rattle.grid.specs.declared.Family.the-variants.{TwoPin, ManyPin}
-use Rattle.grid.specs.Channel.{times, right, density, family, tracks}
+use Rattle.grid.specs.Channel.{density, family, tracks}
 use Rattle.grid.specs.Grid.{Solution}
 use Rattle.grid.proofs.Rows.{RowsFit, two-density, many-density}
 use Rattle.sweep.specs.Drawing.{gap, width, layout}
 use Rattle.sweep.proofs.Gaps.Held.{Enough, Held, tracks-enough}
-use Rattle.sweep.proofs.Gaps.Held as held
-use Rattle.sweep.proofs.Rules.Room.{asks}
 use Rattle.sweep.proofs.Drawing.Sweep as sweep
 use Rattle.sweep.proofs.Drawing.Whole.{layout-solution, layout-width}
 -- THE TRACKS that are enough, and those of the channel are: "its tracks are d where each net has two pins, else 2d - 1"
@@ -23,20 +20,6 @@ module _ (t : ℕ) (top bottom : List ℕ) (fit : RowsFit top bottom) (enough : 
   -- THE GAPS: an open net has a strand; a net whose pins all lie left has none, or two or more; no net has more strands than pins to the left
   pub gaps : (c : ℕ) → c ≤ length top → Held t top bottom c (gap t top bottom c)
   gaps = sweep.invariant t top bottom fit enough
-
-  -- where each net has two pins, an open net has one strand
-  pub gaps-single : family top bottom ≡ TwoPin → (c : ℕ) → c ≤ length top → (v : ℕ) → v ≢ 0 → 0 < right top bottom c v
-      → times v (gap t top bottom c) ≤ 1
-  gaps-single e c p = held.single top bottom fit c (gap t top bottom c) (gaps c p) e
-
-  -- and a net whose pins all lie left has none, or two
-  pub gaps-double : family top bottom ≡ TwoPin → (c : ℕ) → c ≤ length top → (v : ℕ) → v ≢ 0 → right top bottom c v ≡ 0
-      → (times v (gap t top bottom c) ≡ 0) ⊎ (times v (gap t top bottom c) ≡ 2)
-  gaps-double e c p = held.double top bottom fit c (gap t top bottom c) (gaps c p) e
-
-  -- THE ROOM: wherever a rule asks for free tracks, they are there
-  pub rooms : (c : ℕ) → c < length top → asks top bottom c (gap t top bottom c) ≤ times 0 (gap t top bottom c)
-  rooms = sweep.rooms t top bottom fit enough
 
   -- THE LAYOUT IS A SOLUTION, with the width and the tracks reported
   pub solved : Solution top bottom (width t top bottom) t (layout t top bottom)

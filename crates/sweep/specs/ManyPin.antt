@@ -9,22 +9,22 @@ use Rattle.sweep.specs.declared.Action.{Action}
 use Rattle.sweep.specs.declared.Pin.{Pin}
 use Rattle.sweep.specs.declared.Free.{Free}
 use Rattle.sweep.specs.declared.Joint.{Joint}
-use Rattle.sweep.specs.Rules.{Kind, none, starts, continues, ends, kindOf, pins, goes, noTrack, act, straight, full, joinNet, topTakesFree, bottomTakesFree}
+use Rattle.sweep.specs.Rules.{Kind, none, starts, continues, ends, kindOf, pinWires, goes, noTrack, act, straight, full, joinNet, topTakesFree, bottomTakesFree}
 use Rattle.sweep.specs.Rules.{bothTakeFree, topEnds, bottomEnds, bothEnd}
 
 -- each pin goes direct: the bottom net up to row q, the top net down to row p; one new strand, track y for net v (0: none)
 abbrev pub direct : (A B : Pin) (q p y v : ℕ) → Action
-direct A B q p y v = act (pins (B .net) q (A .net) p) 0 0 (goes y v) noTrack noTrack
+direct A B q p y v = act (pinWires (B .net) q (A .net) p) 0 0 (goes y v) noTrack noTrack
 
 -- "the top net leaves on f instead of m and the new net takes m"; "the top net leaves on f and the bottom net adds m". A lower strand of the top net stays
 abbrev pub topMoves : (A B : Pin) → Free → Action
 topMoves A B f =
-    act (pins (B .net) (A .high) (A .net) (A .high)) (A .net) 0 (goes (f .first) (A .net)) (goes (A .high) (B .net)) (goes (pick (eqb (A .many) 1) 0 (A .low)) (A .net))
+    act (pinWires (B .net) (A .high) (A .net) (A .high)) (A .net) 0 (goes (f .first) (A .net)) (goes (A .high) (B .net)) (goes (pick (eqb (A .many) 1) 0 (A .low)) (A .net))
 
 -- mirrored: the bottom net leaves on f instead of its lowest strand, and the new net takes that. A higher strand of the bottom net stays
 abbrev pub bottomMoves : (A B : Pin) → Free → Action
 bottomMoves A B f =
-    act (pins (B .net) (B .low) (A .net) (B .low)) (B .net) 0 (goes (f .first) (B .net)) (goes (B .low) (A .net)) (goes (pick (eqb (B .many) 1) 0 (B .high)) (B .net))
+    act (pinWires (B .net) (B .low) (A .net) (B .low)) (B .net) 0 (goes (f .first) (B .net)) (goes (B .low) (A .net)) (goes (pick (eqb (B .many) 1) 0 (B .high)) (B .net))
 
 -- rule 4, "A continuing top net with highest strand m opposite a starting one, f the lowest free track: if f < m each goes direct; else the top net leaves
 -- on f instead of m and the new net takes m."
@@ -37,11 +37,11 @@ bottomContinues A B f = pick (ltb (B .low) (f .first)) (direct A B (B .low) (f .
 
 -- rule 5, "if the top net has two strands it joins them, leaves on the higher, and the bottom net adds the lower"
 abbrev pub topJoins : (A B : Pin) → Action
-topJoins A B = act (pins (B .net) (A .low) (A .net) (A .low)) (A .net) 0 (goes (A .high) (A .net)) (goes (A .low) (B .net)) noTrack
+topJoins A B = act (pinWires (B .net) (A .low) (A .net) (A .low)) (A .net) 0 (goes (A .high) (A .net)) (goes (A .low) (B .net)) noTrack
 
 -- "if the bottom net has two it joins them, leaves on the lower, and the top net adds the higher"
 abbrev pub bottomJoins : (A B : Pin) → Action
-bottomJoins A B = act (pins (B .net) (B .high) (A .net) (B .high)) (B .net) 0 (goes (B .low) (B .net)) (goes (B .high) (A .net)) noTrack
+bottomJoins A B = act (pinWires (B .net) (B .high) (A .net) (B .high)) (B .net) 0 (goes (B .low) (B .net)) (goes (B .high) (A .net)) noTrack
 
 -- "Two, with m the top net's highest and l the bottom net's lowest: if l < m both go direct. Else, if the top net has two strands … Else, if the bottom net
 -- has two … Else with f: if f < m the top net stays and the bottom net adds f; if f > m the top net leaves on f and the bottom net adds m." The last

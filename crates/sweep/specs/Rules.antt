@@ -23,8 +23,8 @@ kindOf (suc (suc zero)) = continues
 kindOf (suc (suc (suc k))) = ends
 
 -- the wires of two pins: the bottom net b up to row q, the top net a down to row p
-abbrev pub pins : (b q a p : ℕ) → Segments
-pins b q a p = record { bottom = b; low = q; start = q; middle = 0; stop = q; high = p; top = a }
+abbrev pub pinWires : (b q a p : ℕ) → Segments
+pinWires b q a p = record { bottom = b; low = q; start = q; middle = 0; stop = q; high = p; top = a }
 
 -- track y goes to net v
 abbrev pub goes : (y v : ℕ) → Gift
@@ -40,11 +40,11 @@ act w e c g1 g2 g3 = record { wires = w; ended = e; closed = c; gift1 = g1; gift
 
 -- "No pins: all straight."
 abbrev pub straight : Action
-straight = act (pins 0 0 0 0) 0 0 noTrack noTrack noTrack
+straight = act (pinWires 0 0 0 0) 0 0 noTrack noTrack noTrack
 
 -- "a vertical from row 0 to t + 1" of net v: its strands end, and it leaves on track y (0: it does not)
 abbrev pub full : (t v y : ℕ) → Action
-full t v y = act (pins v (suc t) v (suc t)) v 0 (goes y v) noTrack noTrack
+full t v y = act (pinWires v (suc t) v (suc t)) v 0 (goes y v) noTrack noTrack
 
 -- track y for net v, and none where v is 0
 abbrev pub taken : (v y : ℕ) → ℕ
@@ -65,27 +65,27 @@ joinNet N a b =
 
 -- "one pin takes the lowest free track": the top pin of net a, the bottom pin of net b
 abbrev pub topTakesFree : Free → (a : ℕ) → Action
-topTakesFree f a = act (pins 0 0 a (f .first)) 0 0 (goes (f .first) a) noTrack noTrack
+topTakesFree f a = act (pinWires 0 0 a (f .first)) 0 0 (goes (f .first) a) noTrack noTrack
 
 abbrev pub bottomTakesFree : Free → (b : ℕ) → Action
-bottomTakesFree f b = act (pins b (f .first) 0 (f .first)) 0 0 (goes (f .first) b) noTrack noTrack
+bottomTakesFree f b = act (pinWires b (f .first) 0 (f .first)) 0 0 (goes (f .first) b) noTrack noTrack
 
 -- "of two pins the top takes the higher of the two lowest free"
 abbrev pub bothTakeFree : Free → (a b : ℕ) → Action
-bothTakeFree f a b = act (pins b (f .first) a (f .second)) 0 0 (goes (f .first) b) (goes (f .second) a) noTrack
+bothTakeFree f a b = act (pinWires b (f .first) a (f .second)) 0 0 (goes (f .first) b) (goes (f .second) a) noTrack
 
 -- "An ending pin alone joins its strand. With a starting pin opposite, the starting net takes the ended net's track"; "The top net joins all strands up to
 -- its pin, and the bottom pin's net adds the lowest of them"
 abbrev pub topEnds : (A B : Pin) → Action
-topEnds A B = act (pins (B .net) (A .low) (A .net) (A .low)) (A .net) 0 (goes (taken (B .net) (A .low)) (B .net)) noTrack noTrack
+topEnds A B = act (pinWires (B .net) (A .low) (A .net) (A .low)) (A .net) 0 (goes (taken (B .net) (A .low)) (B .net)) noTrack noTrack
 
 -- "mirrored, the bottom net joins down and the top pin's net adds the highest"
 abbrev pub bottomEnds : (A B : Pin) → Action
-bottomEnds A B = act (pins (B .net) (B .high) (A .net) (B .high)) (B .net) 0 (goes (taken (A .net) (B .high)) (A .net)) noTrack noTrack
+bottomEnds A B = act (pinWires (B .net) (B .high) (A .net) (B .high)) (B .net) 0 (goes (taken (A .net) (B .high)) (A .net)) noTrack noTrack
 
 -- "If both end and all the bottom net's strands lie below all the top net's, both join"
 abbrev pub bothJoin : (A B : Pin) → Action
-bothJoin A B = act (pins (B .net) (B .high) (A .net) (A .low)) (A .net) (B .net) noTrack noTrack noTrack
+bothJoin A B = act (pinWires (B .net) (B .high) (A .net) (A .low)) (A .net) (B .net) noTrack noTrack noTrack
 
 -- "all the bottom net's strands lie below all the top net's"
 abbrev pub liesBelow : (A B : Pin) → Bool

@@ -71,10 +71,10 @@ after x tr =
     (clear (x .ended) tr))))
 
 -- f y, f (y + 1), ..: k of them
-unfoldable pub listed : ℕ → ℕ → (ℕ → ℕ) → List ℕ
-listed zero y f = []
-listed (suc k) y f = f y ∷ listed k (suc y) f
+unfoldable pub valuesFrom : ℕ → ℕ → (ℕ → ℕ) → List ℕ
+valuesFrom zero y f = []
+valuesFrom (suc k) y f = f y ∷ valuesFrom k (suc y) f
 
 -- the t + 1 vertical entries of a column
 unfoldable pub verticals : ℕ → Action → List ℕ
-verticals t x = listed (suc t) 0 (segment (x .wires))
+verticals t x = valuesFrom (suc t) 0 (segment (x .wires))

@@ -12,7 +12,7 @@ use borrow.Author.Tests.{ne-eqb}
 use lib.ListN.{length, take, drop, getD, length-append, take-append-drop}
 use lib.Seq.{take-at, drop-at, drop-drop, length-take-le, drop-append-add}
 use Rattle.grid.specs.Channel.{pick, bit, sum, count}
-use Rattle.grid.proofs.Tests.{and-true}
+use Rattle.grid.proofs.Tests.{and-true, below-or}
 use Rattle.sets.specs.Member.{member, LowestFrom}
 use Rattle.sweep.specs.declared.Action.{Action}
 use Rattle.sweep.specs.Tracks.{clear, verticals}
@@ -21,7 +21,6 @@ use Rattle.sweep.specs.Rules.{act, noTrack}
 use Rattle.router.specs.Working.{tracksIn, Holds, Next, Remaining, withJoining}
 use Rattle.sweep.proofs.Drawing.Added as solved
 use Rattle.sweep.proofs.Tracks.Strands.{many-times}
-use Rattle.sweep.proofs.Tracks.Changed.{below-or}
 use Rattle.sweep.proofs.Columns.Entries.{verticals-length}
 use Rattle.router.proofs.Laws.Arrays.{length-tracks}
 use Rattle.router.proofs.Laws.Lowest.{OnTrack, many-on}

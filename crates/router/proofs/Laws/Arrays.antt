@@ -8,7 +8,7 @@ use native.Mathlib.Nat.{le-refl}
 use native.Mathlib.Numerals.{add-one}
 use native.Mathlib.Omega.{arith}
 use lib.Dec.{eqb}
-use borrow.Author.Tests.{eq-eqb, ne-eqb, eqb-true, eqb-false}
+use borrow.Author.Tests.{ne-eqb, eqb-true, eqb-false}
 use lib.ListN.{length, take, drop, getD, set, replicate, length-take, length-drop, length-set}
 use lib.Seq.{getD-set-same, getD-set-other, getD-take, getD-drop, ext-getD, drop-set-add, take-set-lt, set-getD}
 use Rattle.grid.specs.Channel.{pick}
@@ -16,11 +16,12 @@ use Rattle.grid.specs.Working.{ByNet}
 use Rattle.sweep.specs.Tracks.{strandsFrom, strands, first, last, lowest, highest, many, lesser, clear, give}
 use Rattle.sets.specs.Member.{member, Put}
 use Rattle.sweep.specs.Working.{FreeAt}
-use Rattle.router.specs.Working.{tracksIn, swept, Swept, NoneBetween, Frees, Holds, blank}
+use Rattle.router.specs.Working.{tracksIn, cleared, ClearedFrom, NoneBetween, Frees, Holds, blank}
 use Rattle.grid.proofs.Counting.{zeros}
+use Rattle.grid.proofs.Tests.{before-at-after, below-or}
 use Rattle.sweep.proofs.Tracks.After.{length-clear, clear-get}
 use Rattle.sweep.proofs.Tracks.Strands.{between-from, two-strands, many-times}
-use Rattle.sweep.proofs.Tracks.Changed.{before-at-after, below-or, cleared-own, cleared-other, clear-idle, some-low, given-other, given-number, given-low, given-high, first-last, last-at-most, number-at-most}
+use Rattle.sweep.proofs.Tracks.Changed.{cleared-track, cleared-own, cleared-other, clear-idle, some-low, given-other, given-number, given-low, given-high, first-last, last-at-most, number-at-most}
 
 -- ---- the tracks of an array
 
@@ -36,22 +37,22 @@ tracks-at t d j h =
 
 -- ---- the end of a net's strands
 
--- nothing swept yet
-pub swept-none : (v a : ℕ) (d : List ℕ) → Swept v a a d d
-swept-none v a d = record { sized = refl; inside = λ i h k. absurd (omega arith); outside = λ i h. refl }
+-- nothing cleared yet
+pub cleared-none : (v a : ℕ) (d : List ℕ) → ClearedFrom v a a d d
+cleared-none v a d = record { sized = refl; inside = λ i h k. absurd (omega arith); outside = λ i h. refl }
 
--- one track more is swept
-swept-more : (v a y : ℕ) (d s : List ℕ) (x : ℕ) → Swept v a y d s → a ≤ y → y < length d → x ≡ swept v (getD s y 0) → Swept v a (y + 1) d (set s y x)
-swept-more v a y d s x w ay h e =
+-- one track more is cleared
+cleared-more : (v a y : ℕ) (d s : List ℕ) (x : ℕ) → ClearedFrom v a y d s → a ≤ y → y < length d → x ≡ cleared v (getD s y 0) → ClearedFrom v a (y + 1) d (set s y x)
+cleared-more v a y d s x w ay h e =
     record { sized = length-set s y x ∙ w .sized; inside = into; outside = out }
   where
-    here : getD (set s y x) y 0 ≡ swept v (getD d y 0)
-    here = getD-set-same s y x 0 (omega (arith, w .sized)) ∙ e ∙ ap (swept v) (w .outside y (inr (le-refl y)))
+    here : getD (set s y x) y 0 ≡ cleared v (getD d y 0)
+    here = getD-set-same s y x 0 (omega (arith, w .sized)) ∙ e ∙ ap (cleared v) (w .outside y (inr (le-refl y)))
 
-    into : (i : ℕ) → a ≤ i → i < y + 1 → getD (set s y x) i 0 ≡ swept v (getD d i 0)
+    into : (i : ℕ) → a ≤ i → i < y + 1 → getD (set s y x) i 0 ≡ cleared v (getD d i 0)
     into i ha hi =
         ⊎-elim (λ b. getD-set-other s y i x 0 (λ q. omega arith) ∙ w .inside i ha b)
-        (⊎-elim (λ q. subst (λ (k : ℕ). getD (set s y x) k 0 ≡ swept v (getD d k 0)) (sym q) here) (λ b. absurd (omega arith)))
+        (⊎-elim (λ q. subst (λ (k : ℕ). getD (set s y x) k 0 ≡ cleared v (getD d k 0)) (sym q) here) (λ b. absurd (omega arith)))
         (before-at-after i y)
 
     out : (i : ℕ) → (i < a) ⊎ (y + 1 ≤ i) → getD (set s y x) i 0 ≡ getD d i 0
@@ -59,18 +60,18 @@ swept-more v a y d s x w ay h e =
     out i (inr b) = getD-set-other s y i x 0 (λ q. omega arith) ∙ w .outside i (inr (omega arith))
 
 -- the strand on track y ends besides
-pub swept-next : (v a y : ℕ) (d s r : List ℕ) → Swept v a y d s → a ≤ y → y < length d → r ≡ set s y (swept v (getD s y 0)) → Swept v a (y + 1) d r
-swept-next v a y d s r w ay h e = rw e (swept-more v a y d s _ w ay h refl)
+pub cleared-next : (v a y : ℕ) (d s r : List ℕ) → ClearedFrom v a y d s → a ≤ y → y < length d → r ≡ set s y (cleared v (getD s y 0)) → ClearedFrom v a (y + 1) d r
+cleared-next v a y d s r w ay h e = rw e (cleared-more v a y d s _ w ay h refl)
 
 -- there are as many tracks then
-pub swept-length : (v y : ℕ) (d r : List ℕ) → r ≡ set d y (swept v (getD d y 0)) → length d ≡ 512 → length r ≡ 512
-swept-length v y d r e l = ap length e ∙ length-set d y (swept v (getD d y 0)) ∙ l
+pub cleared-length : (v y : ℕ) (d r : List ℕ) → r ≡ set d y (cleared v (getD d y 0)) → length d ≡ 512 → length r ≡ 512
+cleared-length v y d r e l = ap length e ∙ length-set d y (cleared v (getD d y 0)) ∙ l
 
--- tracks without a strand of the net are as good as swept
-swept-past : (v a y b : ℕ) (d s : List ℕ) → Swept v a y d s → y ≤ b → ((i : ℕ) → y ≤ i → i < b → getD d i 0 ≡ v → ⊥) → Swept v a b d s
-swept-past v a y b d s w l n = record { sized = w .sized; inside = into; outside = out }
+-- tracks without a strand of the net are as good as cleared
+cleared-past : (v a y b : ℕ) (d s : List ℕ) → ClearedFrom v a y d s → y ≤ b → ((i : ℕ) → y ≤ i → i < b → getD d i 0 ≡ v → ⊥) → ClearedFrom v a b d s
+cleared-past v a y b d s w l n = record { sized = w .sized; inside = into; outside = out }
   where
-    into : (i : ℕ) → a ≤ i → i < b → getD s i 0 ≡ swept v (getD d i 0)
+    into : (i : ℕ) → a ≤ i → i < b → getD s i 0 ≡ cleared v (getD d i 0)
     into i ha hb =
         ⊎-elim (λ k. w .inside i ha k) (λ k. w .outside i (inr k) ∙ sym (ap (λ (x : Bool). pick x 0 (getD d i 0)) (ne-eqb (getD d i 0) v (n i k hb))))
         (below-or i y)
@@ -80,35 +81,29 @@ swept-past v a y b d s w l n = record { sized = w .sized; inside = into; outside
     out i (inr k) = w .outside i (inr (omega arith))
 
 -- a strand that has ended does not end again
-swept-again : (v x : ℕ) → 0 < v → swept v (swept v x) ≡ swept v x
-swept-again v x l = ⊎-elim (λ k. other (λ e. omega arith)) (⊎-elim (λ e. own e) (λ k. other (λ e. omega arith))) (before-at-after x v)
-  where
-    own : x ≡ v → swept v (swept v x) ≡ swept v x
-    own e = simp (eq-eqb x v e, ne-eqb 0 v (λ (z : 0 ≡ v). omega arith))
-
-    other : (x ≡ v → ⊥) → swept v (swept v x) ≡ swept v x
-    other n = simp (ne-eqb x v n)
+cleared-again : (v x : ℕ) → 0 < v → cleared v (cleared v x) ≡ cleared v x
+cleared-again v x l = rw (cleared-track v x l) refl
 
 -- where no strand lies between, the end of the two outer ones is enough
-pub swept-ends : (v a b : ℕ) (d r s : List ℕ) → 0 < v → a ≤ b → b < length d → NoneBetween v a b d
-    → r ≡ set d a (swept v (getD d a 0)) → s ≡ set r b (swept v (getD r b 0)) → Swept v a (b + 1) d s
-swept-ends v a b d r s hv ab hb n er es =
-    let w : Swept v a (a + 1) d r = swept-next v a a d d r (swept-none v a d) (le-refl a) (omega arith) er in
-    ⊎-elim (λ k. swept-next v a b d r s (swept-past v a (a + 1) b d r w (omega arith) (λ i l m. n i (omega arith) m)) ab hb es)
+pub cleared-ends : (v a b : ℕ) (d r s : List ℕ) → 0 < v → a ≤ b → b < length d → NoneBetween v a b d
+    → r ≡ set d a (cleared v (getD d a 0)) → s ≡ set r b (cleared v (getD r b 0)) → ClearedFrom v a (b + 1) d s
+cleared-ends v a b d r s hv ab hb n er es =
+    let w : ClearedFrom v a (a + 1) d r = cleared-next v a a d d r (cleared-none v a d) (le-refl a) (omega arith) er in
+    ⊎-elim (λ k. cleared-next v a b d r s (cleared-past v a (a + 1) b d r w (omega arith) (λ i l m. n i (omega arith) m)) ab hb es)
     (⊎-elim (λ e. one w e) (λ k. absurd (omega arith)))
     (before-at-after a b)
   where
-    one : Swept v a (a + 1) d r → a ≡ b → Swept v a (b + 1) d s
+    one : ClearedFrom v a (a + 1) d r → a ≡ b → ClearedFrom v a (b + 1) d s
     one w e =
-        let x : getD r b 0 ≡ swept v (getD d b 0) = w .inside b ab (omega arith) in
-        let y : swept v (getD r b 0) ≡ getD r b 0 = ap (swept v) x ∙ swept-again v (getD d b 0) hv ∙ sym x in
+        let x : getD r b 0 ≡ cleared v (getD d b 0) = w .inside b ab (omega arith) in
+        let y : cleared v (getD r b 0) ≡ getD r b 0 = ap (cleared v) x ∙ cleared-again v (getD d b 0) hv ∙ sym x in
         let z : s ≡ r = es ∙ ap (set r b) y ∙ set-getD r b 0 in
         rw (z, ← e) w
 
 -- the tracks between a net's lowest and highest strand are enough
-swept-all : (v t : ℕ) (d s : List ℕ) → t ≤ 511 → length d ≡ 512 → Swept v (lowest v (tracksIn t d)) (highest v (tracksIn t d) + 1) d s → tracksIn t s ≡ clear v (tracksIn t d)
+cleared-all : (v t : ℕ) (d s : List ℕ) → t ≤ 511 → length d ≡ 512 → ClearedFrom v (lowest v (tracksIn t d)) (highest v (tracksIn t d) + 1) d s → tracksIn t s ≡ clear v (tracksIn t d)
 unfolding lowest highest strands
-swept-all v t d s h e w =
+cleared-all v t d s h e w =
     ext-getD 0 (tracksIn t s) (clear v (tracksIn t d)) (ls ∙ sym lc) (λ j b. each j (subst (λ (k : ℕ). j < k) ls b))
   where
     ls : length (tracksIn t s) ≡ t
@@ -117,13 +112,13 @@ swept-all v t d s h e w =
     lc : length (clear v (tracksIn t d)) ≡ t
     lc = length-clear v (tracksIn t d) ∙ length-tracks t d h e
 
-    other : (j : ℕ) → swept v (getD d (suc j) 0) ≡ getD d (suc j) 0 → getD s (suc j) 0 ≡ swept v (getD d (suc j) 0)
+    other : (j : ℕ) → cleared v (getD d (suc j) 0) ≡ getD d (suc j) 0 → getD s (suc j) 0 ≡ cleared v (getD d (suc j) 0)
     other j q =
         ⊎-elim (λ b. w .outside (suc j) (inl b) ∙ sym q)
         (λ o. ⊎-elim (λ b. w .inside (suc j) o b) (λ b. w .outside (suc j) (inr b) ∙ sym q) (below-or (suc j) (last (strandsFrom 1 v (tracksIn t d)) + 1)))
         (below-or (suc j) (first (strandsFrom 1 v (tracksIn t d))))
 
-    case : (j : ℕ) → j < t → (p : Bool) → eqb (getD d (suc j) 0) v ≡ p → getD s (suc j) 0 ≡ swept v (getD d (suc j) 0)
+    case : (j : ℕ) → j < t → (p : Bool) → eqb (getD d (suc j) 0) v ≡ p → getD s (suc j) 0 ≡ cleared v (getD d (suc j) 0)
     case j b true q =
         let r = between-from 1 v (tracksIn t d) j (omega (arith, length-tracks t d h e)) (tracks-at t d j b ∙ eqb-true (getD d (suc j) 0) v q) in
         w .inside (suc j) (omega arith) (omega arith)
@@ -131,16 +126,16 @@ swept-all v t d s h e w =
 
     each : (j : ℕ) → j < t → getD (tracksIn t s) j 0 ≡ getD (clear v (tracksIn t d)) j 0
     each j b =
-        tracks-at t s j b ∙ case j b (eqb (getD d (suc j) 0) v) refl ∙ ap (swept v) (sym (tracks-at t d j b)) ∙ sym (clear-get v (tracksIn t d) j)
+        tracks-at t s j b ∙ case j b (eqb (getD d (suc j) 0) v) refl ∙ ap (cleared v) (sym (tracks-at t d j b)) ∙ sym (clear-get v (tracksIn t d) j)
 
 -- sweeping leaves numbers up to 256
-swept-nets : (v a y : ℕ) (d s : List ℕ) → Swept v a y d s → ((j : ℕ) → getD d j 0 ≤ 256) → (j : ℕ) → getD s j 0 ≤ 256
-swept-nets v a y d s w h j =
+cleared-nets : (v a y : ℕ) (d s : List ℕ) → ClearedFrom v a y d s → ((j : ℕ) → getD d j 0 ≤ 256) → (j : ℕ) → getD s j 0 ≤ 256
+cleared-nets v a y d s w h j =
     ⊎-elim (λ b. rw (w .outside j (inl b)) (h j))
     (λ o. ⊎-elim (λ b. rw (w .inside j o b) small) (λ b. rw (w .outside j (inr b)) (h j)) (below-or j y))
     (below-or j a)
   where
-    small : swept v (getD d j 0) ≤ 256
+    small : cleared v (getD d j 0) ≤ 256
     small = elim (eqb (getD d j 0) v) as (λ p. pick p 0 (getD d j 0) ≤ 256) [ true ↦ omega arith | false ↦ h j ]
 
 -- so does a store
@@ -176,7 +171,7 @@ frees-put t y x d f g h p l b e u = record { none = other 0 (λ q. omega arith) 
         go false q = other i (eqb-false i y q) ∙ h .each i p′ l′ ∙ ap (λ (k : ℕ). eqb k 0) (sym (getD-set-other d y i x 0 (eqb-false i y q)))
 
 -- a track that does not hold net v keeps what it holds
-pub kept-track : (v y : ℕ) (d : List ℕ) → (getD d y 0 ≡ v → ⊥) → d ≡ set d y (swept v (getD d y 0))
+pub kept-track : (v y : ℕ) (d : List ℕ) → (getD d y 0 ≡ v → ⊥) → d ≡ set d y (cleared v (getD d y 0))
 kept-track v y d n = rw (ne-eqb (getD d y 0) v n) (sym (set-getD d y 0))
 
 -- no track
@@ -223,7 +218,7 @@ index-set g xs tr tr′ v x w h keeps e = record { size = length-set xs v x ∙ 
 
 -- the arrays once a net's strands are ended
 pub dropped : (t v : ℕ) (d f s g low high number : List ℕ) → 0 < v → v ≤ 256 → Holds t (tracksIn t d) d f low high number
-    → Swept v (getD low v 0) (getD high v 0 + 1) d s → Frees t s g → Holds t (clear v (tracksIn t d)) s g (set low v 0) (set high v 0) (set number v 0)
+    → ClearedFrom v (getD low v 0) (getD high v 0 + 1) d s → Frees t s g → Holds t (clear v (tracksIn t d)) s g (set low v 0) (set high v 0) (set number v 0)
 unfolding lowest highest many strands first last
 dropped t v d f s g low high number hv hb h w fr =
     let tr : List ℕ = tracksIn t d in
@@ -232,8 +227,8 @@ dropped t v d f s g low high number hv hb h w fr =
     record {
       fits = h .fits;
       sized = w .sized ∙ h .sized;
-      nets = swept-nets v (getD low v 0) (getD high v 0 + 1) d s w (h .nets);
-      is = swept-all v t d s (h .fits) (h .sized) (rw (h .lows .at v hv hb, h .highs .at v hv hb) at w);
+      nets = cleared-nets v (getD low v 0) (getD high v 0 + 1) d s w (h .nets);
+      is = cleared-all v t d s (h .fits) (h .sized) (rw (h .lows .at v hv hb, h .highs .at v hv hb) at w);
       frees = fr;
       lows = index-set first low tr (clear v tr) v 0 (h .lows) hb keeps (sym (ap first none));
       highs = index-set last high tr (clear v tr) v 0 (h .highs) hb keeps (sym (ap last none));

@@ -6,19 +6,18 @@ use mathlib.Core.List.{List, [], _∷_}
 use mathlib.Core.Logic.{⊎-elim}
 use native.Mathlib.Omega.{arith}
 use lib.Dec.{eqb, ltb}
-use borrow.Author.Tests.{ne-eqb}
 use lib.ListN.{length, take, getD, replicate, length-replicate, List·getD-eq-default}
 use Rattle.grid.proofs.Rows.{no-right}
-use Rattle.grid.proofs.Tests.{and-none}
+use Rattle.grid.proofs.Tests.{and-none, below-or}
 use Rattle.grid.specs.declared.Family.{Family}
 use Rattle.grid.specs.Working.{ByNet}
 use Rattle.sets.specs.Member.{member}
-use Rattle.sweep.specs.Tracks.{strandsFrom, strands, first, last, lowest, highest, many}
+use Rattle.sweep.specs.Tracks.{strands, first, last, lowest, highest, many}
 use Rattle.sweep.specs.Drawing
 use Rattle.sweep.specs.Drawing.{gap, remains}
 use Rattle.router.specs.Working.{tracksIn, Frees, Holds, Spans, Marked, AtGap, Remaining, extendedBy, wideBy, blank, noNets}
-use Rattle.sweep.proofs.Tracks.Changed.{below-or}
 use Rattle.grid.proofs.Counting.{zeros}
+use Rattle.sweep.proofs.Tracks.Changed.{no-strands}
 use Rattle.router.proofs.Laws.Sweeps.{on-small}
 use Rattle.router.proofs.Laws.Lowest.{many-on}
 
@@ -28,16 +27,10 @@ take-zeros zero n h = refl
 take-zeros (suc t) zero h = absurd (omega arith)
 take-zeros (suc t) (suc n) h = ap (λ (l : List ℕ). 0 ∷ l) (take-zeros t n (omega arith))
 
--- free tracks hold no net
-no-strands : (y v n : ℕ) → 0 < v → strandsFrom y v (replicate n 0) ≡ []
-unfolding strandsFrom
-no-strands y v zero h = refl
-no-strands y v (suc n) h = rw (ne-eqb 0 v (λ e. omega arith)) (no-strands (suc y) v n h)
-
 -- zeros, where the tracks hold nothing and so g is 0
 none-indexed : (g : List ℕ → ℕ) → g [] ≡ 0 → (t n : ℕ) → n ≡ 257 → ByNet (λ v. g (strands v (replicate t 0))) (replicate n 0)
 unfolding strands
-none-indexed g e t n en = record { size = length-replicate {A = ℕ} n 0 ∙ en; at = λ v h b. zeros n v ∙ sym (ap g (no-strands 1 v t h) ∙ e) }
+none-indexed g e t n en = record { size = length-replicate {A = ℕ} n 0 ∙ en; at = λ v h b. zeros n v ∙ sym (ap g (no-strands 1 v (replicate t 0) (λ i c q. omega (arith, zeros t i))) ∙ e) }
 
 -- blank arrays hold gap 0
 blank-holds : (top bottom : List ℕ) (t : ℕ) (a f l h n : List ℕ) → t ≤ 511 → a ≡ blank → Frees t blank f → l ≡ noNets → h ≡ noNets → n ≡ noNets

@@ -8,7 +8,7 @@ use borrow.Author.Tests.{lt-ltb, le-ltb}
 use Rattle.grid.specs.Channel.{pick}
 use Rattle.router.specs.Working.{runs, twoRuns}
 use Rattle.sweep.specs.Working.{Flat}
-use Rattle.sweep.proofs.Tracks.Changed.{below-or}
+use Rattle.grid.proofs.Tests.{below-or}
 use Rattle.sweep.proofs.Columns.Entries.{getD-listed, length-listed, verticals-length}
 use native.Mathlib.Nat.{zero-add}
 use native.Mathlib.Numerals.{add-one}
@@ -18,7 +18,7 @@ use lib.Seq.{paste, paste-zero, paste-suc, getD-drop, take-all, take-at}
 use Rattle.grid.specs.declared.Segments.{Segments}
 use Rattle.grid.specs.Segments.{segment}
 use Rattle.sweep.specs.declared.Action.{Action}
-use Rattle.sweep.specs.Tracks.{verticals, listed}
+use Rattle.sweep.specs.Tracks.{verticals, valuesFrom}
 
 -- three runs, where the wires are flat
 pub flat-runs : (w : Segments) (a b k : ℕ) → Flat w → a ≡ max (w .low) (w .start) → b ≡ max (w .stop) (w .high) → runs (w .bottom) a (w .middle) b (w .top) k ≡ segment w k
@@ -49,32 +49,32 @@ two-runs q a m b p k e = ⊎-elim (λ (h : k < a). rw (lt-ltb k a h) refl) (λ (
 
 -- s holds f k at each index k below i, and what d holds from there on; the entries to write are n
 abbrev pub Written : (f : ℕ → ℕ) (d : List ℕ) (n i k : ℕ) (s : List ℕ) → Type 0
-Written f d n i k s = (i ≤ n) × (k ≡ i) × (s ≡ paste d 0 (listed n 0 f) i) × (length s ≡ length d)
+Written f d n i k s = (i ≤ n) × (k ≡ i) × (s ≡ paste d 0 (valuesFrom n 0 f) i) × (length s ≡ length d)
 
 -- no entry
 pub written-none : (f : ℕ → ℕ) (d : List ℕ) (n : ℕ) → Written f d n 0 0 d
-written-none f d n = (omega arith, refl, paste-zero d 0 (listed n 0 f), refl)
+written-none f d n = (omega arith, refl, paste-zero d 0 (valuesFrom n 0 f), refl)
 
 -- one entry more
 pub written-next : (f : ℕ → ℕ) (d : List ℕ) (n i k : ℕ) (s : List ℕ) (v : ℕ) → Written f d n i k s → v ≡ f k → i < n → i < length d → Written f d n (i + 1) (k + 1) (set s i v)
 written-next f d n i k s v w e h l =
-    let g : v ≡ getD (listed n 0 f) i 0 = e ∙ ap f (w .1) ∙ sym (getD-listed n 0 i f h ∙ ap f (zero-add i)) in
-    let p = paste-suc d 0 (listed n 0 f) i 0 (omega arith) (omega (arith, length-listed n 0 f)) in
+    let g : v ≡ getD (valuesFrom n 0 f) i 0 = e ∙ ap f (w .1) ∙ sym (getD-listed n 0 i f h ∙ ap f (zero-add i)) in
+    let p = paste-suc d 0 (valuesFrom n 0 f) i 0 (omega arith) (omega (arith, length-listed n 0 f)) in
     let u = w .2 in
     (omega arith, omega arith, cc (p, zero-add i, add-one i), length-set s i v ∙ w .3)
 
 -- all entries
-pub written-all : (f : ℕ → ℕ) (d : List ℕ) (n i k : ℕ) (s : List ℕ) → Written f d n i k s → n ≤ i → s ≡ listed n 0 f ++ drop n d
+pub written-all : (f : ℕ → ℕ) (d : List ℕ) (n i k : ℕ) (s : List ℕ) → Written f d n i k s → n ≤ i → s ≡ valuesFrom n 0 f ++ drop n d
 written-all f d n i k s w h =
     let e : i ≡ n = omega arith in
     let u = w .2 in
-    cc (take-all n (listed n 0 f) (omega (arith, length-listed n 0 f)), zero-add n)
+    cc (take-all n (valuesFrom n 0 f) (omega (arith, length-listed n 0 f)), zero-add n)
 
 -- they are the verticals, where f k is the edge above row k
-pub verticals-by : (f : ℕ → ℕ) (d s : List ℕ) (t : ℕ) (x : Action) → ((k : ℕ) → f k ≡ segment (x .wires) k) → s ≡ listed (t + 1) 0 f ++ drop (t + 1) d → s ≡ verticals t x ++ drop (t + 1) d
+pub verticals-by : (f : ℕ → ℕ) (d s : List ℕ) (t : ℕ) (x : Action) → ((k : ℕ) → f k ≡ segment (x .wires) k) → s ≡ valuesFrom (t + 1) 0 f ++ drop (t + 1) d → s ≡ verticals t x ++ drop (t + 1) d
 unfolding verticals
 verticals-by f d s t x h e =
-    e ∙ ap (λ (l : List ℕ). l ++ drop (t + 1) d) (λ i. listed (add-one t i) 0 (λ k. h k i))
+    e ∙ ap (λ (l : List ℕ). l ++ drop (t + 1) d) (λ i. valuesFrom (add-one t i) 0 (λ k. h k i))
 
 -- one track more
 pub copied : (d tr s : List ℕ) (t i : ℕ) → s ≡ paste d (t + 1) (drop 1 tr) i → t + 1 + i < length d → 1 + i < length tr

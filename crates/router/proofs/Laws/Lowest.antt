@@ -11,8 +11,7 @@ use Rattle.sets.specs.Member.{member, LowestFrom}
 use Rattle.sweep.specs.Tracks.{lesser, lowestNet, many}
 use Rattle.router.specs.Working.{Next}
 use Rattle.grid.proofs.Counting.{holds-times, times-at}
-use Rattle.grid.proofs.Tests.{not-both}
-use Rattle.sweep.proofs.Tracks.Changed.{below-or}
+use Rattle.grid.proofs.Tests.{not-both, below-or}
 use Rattle.sweep.proofs.Tracks.Strands.{many-times, a-net}
 
 -- the lesser of two is at most each that is a net

@@ -3,33 +3,30 @@ use Prim.Native.Nat.{ℕ, zero, suc, _+_, _≤_, _<_}
 use mathlib.Core.Path.{_≡_, refl, sym, ap, subst, _∙_}
 use mathlib.Core.Bool.{Bool, true, false, not, _&&_}
 use mathlib.Core.List.{List}
-use mathlib.Core.Logic.{_⊎_, inl, inr, ⊎-elim}
+use mathlib.Core.Logic.{_⊎_, inl, inr, ⊎-elim, _≢_}
 use native.Mathlib.Numerals.{add-one}
 use native.Mathlib.Omega.{arith}
 use lib.Dec.{eqb, ltb}
-use borrow.Author.Tests.{ne-eqb, eqb-true, eqb-false}
-use lib.ListN.{length, drop, getD, List·getD-eq-default}
-use lib.Seq.{drop-cons}
-use Rattle.grid.proofs.Tests.{and-none}
+use borrow.Author.Tests.{eqb-true, eqb-false}
+use lib.ListN.{length, getD, List·getD-eq-default}
+use Rattle.grid.proofs.Rows.{right-suc}
+use Rattle.grid.proofs.Tests.{eqb-diff, and-none, below-or}
 use Rattle.grid.specs.declared.Family.{Family}
-use Rattle.grid.specs.Channel.{times, right}
+use Rattle.grid.specs.Channel.{right}
 use Rattle.sweep.specs.declared.Action.{Action}
 use Rattle.sweep.specs.Tracks.{after}
 use Rattle.sweep.specs.Drawing
 use Rattle.sweep.specs.Drawing.{action}
 use Rattle.router.specs.Working.{tracksIn, Holds, RowsAndLasts, Fitting, MarkedAt, Marked, MarksThree, Keeps, extendedBy, wideBy}
-use Rattle.sweep.proofs.Tracks.Changed.{below-or}
 use Rattle.sweep.proofs.Columns.Others.{others-stay}
 
--- a number that does not stand at c
-times-next : (v : ℕ) (l : List ℕ) (c : ℕ) → c < length l → (v ≡ getD l c 0 → ⊥) → times v (drop c l) ≡ times v (drop (suc c) l)
-unfolding times
-times-next v l c h n = rw (drop-cons l c 0, ne-eqb (getD l c 0) v (λ e. n (sym e))) (omega arith)
-
 -- a net with no pin in column c + 1 has as many pins after it as before it
-later-next : (top bottom : List ℕ) (c v : ℕ) → c < length top → c < length bottom → (v ≡ getD top c 0 → ⊥) → (v ≡ getD bottom c 0 → ⊥) → Drawing.later top bottom c v ≡ Drawing.later top bottom (suc c) v
-unfolding Drawing.later right
-later-next top bottom c v h k n m = rw (times-next v top c h n, times-next v bottom c k m)
+later-next : (top bottom : List ℕ) (c v : ℕ) → v ≢ 0 → v ≢ getD top c 0 → v ≢ getD bottom c 0 → Drawing.later top bottom c v ≡ Drawing.later top bottom (suc c) v
+unfolding Drawing.later
+later-next top bottom c v n p q =
+    let same : right top bottom c v ≡ right top bottom (suc c) v =
+    omega (arith, right-suc top bottom v c n, eqb-diff (getD top c 0) v (λ e. p (sym e)), eqb-diff (getD bottom c 0) v (λ e. q (sym e))) in
+    rw same refl
 
 -- net 0 is never marked
 pub zero-marked : (last n n′ : List ℕ) (c c′ : ℕ) (s w : List ℕ) (fam : Family) → MarkedAt last n c s w fam 0 → MarkedAt last n′ c′ s w fam 0
@@ -53,7 +50,7 @@ module _ (top bottom last : List ℕ) (c : ℕ) (x : Action) {t : ℕ} {a f l h 
           H′ .numbers .at (suc j) z k ∙ others-stay x (getD top c 0) (getD bottom c 0) (suc j) (tracksIn t a) (ax .applies) (ax .plain) z d p q ∙ sym (H .numbers .at (suc j) z k) in
           let e : ltb (c + 1) (getD last (suc j) 0) ≡ ltb c (getD last (suc j) 0) =
           ap (λ (y : ℕ). ltb y (getD last (suc j) 0)) (add-one c) ∙ sym (sp .lasts (suc c) (suc j) k)
-          ∙ sym (later-next top bottom c (suc j) cl (omega (arith, sp .rows)) p q) ∙ sp .lasts c (suc j) k in
+          ∙ sym (later-next top bottom c (suc j) (λ e. omega arith) p q) ∙ sp .lasts c (suc j) k in
           record { extended = r .extended ∙ sym (rw (e, m) refl); wide = λ g. r .wide g ∙ sym (rw (e, m) refl) }
 
       large : 257 ≤ suc j → MarkedAt last n′ (c + 1) s w fam (suc j)

@@ -9,7 +9,8 @@ use native.Mathlib.Numerals.{add-one}
 use lib.ListN.{length, drop, getD}
 use Rattle.sweep.specs.Tracks.{strandsFrom, strands, first, lowest, highest, second}
 use Rattle.router.specs.Working.{tracksIn}
-use Rattle.sweep.proofs.Tracks.Changed.{below-or, last-at-most, second-found, second-none}
+use Rattle.grid.proofs.Tests.{below-or}
+use Rattle.sweep.proofs.Tracks.Changed.{last-at-most, second-found, second-none}
 use Rattle.sweep.proofs.Tracks.Strands.{between-from}
 use Rattle.router.proofs.Laws.Arrays.{length-tracks, tracks-at}
 

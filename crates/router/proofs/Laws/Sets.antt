@@ -18,8 +18,7 @@ use Rattle.sweep.specs.declared.Free.{Free}
 use Rattle.sweep.specs.Tracks.{strandsFrom, strands, first, lowest, second}
 use Rattle.sweep.specs.Drawing.{freeOf}
 use Rattle.router.specs.Working.{tracksIn, Frees, narrow, MarkedAt, extendedBy, wideBy}
-use Rattle.sweep.proofs.Tracks.Changed.{below-or}
-use Rattle.grid.proofs.Tests.{not-both}
+use Rattle.grid.proofs.Tests.{below-or, not-both}
 use Rattle.router.proofs.Laws.Arrays.{length-tracks, tracks-at}
 
 -- ---- the lowest members are the lowest free tracks

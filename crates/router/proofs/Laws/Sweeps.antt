@@ -14,7 +14,7 @@ use lib.Seq.{take-at, drop-at, drop-drop}
 use Rattle.grid.specs.declared.Family.{Family}
 use Rattle.grid.specs.declared.Family.the-variants.{TwoPin, ManyPin}
 use Rattle.grid.specs.Channel.{pick}
-use Rattle.grid.proofs.Tests.{and-true}
+use Rattle.grid.proofs.Tests.{and-true, below-or}
 use Rattle.sets.specs.Member.{member}
 use Rattle.sweep.specs.declared.Action.{Action}
 use Rattle.sweep.specs.declared.Pin.{Pin}
@@ -27,7 +27,6 @@ use Rattle.sweep.specs.Drawing
 use Rattle.sweep.specs.Drawing.{actionOf, kindBy, freeOf, pinAt, extendedAt, wideAt, extendedNet, netToJoin, jointOf, action, gap, drawn}
 use Rattle.sweep.specs.Working.{Flat}
 use Rattle.router.specs.Working.{tracksIn, Holds, Spans, RowsAndLasts, Ready, Fitting, FitsAt, Marked, Keeps, narrow, AtGap, DrawnTo, Next, ToJoin, LowestJoint, pinBy, extendedBy, wideBy, jointBy}
-use Rattle.sweep.proofs.Tracks.Changed.{below-or}
 use Rattle.router.proofs.Laws.Arrays.{length-tracks, tracks-at, own}
 use Rattle.sweep.proofs.Rules.Seconds.{leaving, two-same, many-same}
 use Rattle.router.proofs.Laws.Lowest.{OnTrack, Gathers, lowest-net, many-on, on-many}

@@ -22,7 +22,7 @@ use Rattle.sweep.proofs.Tracks.After.{gives, Distinct, one-track, two-t
 use Rattle.sweep.proofs.Columns.Sound.{Grant, Out, out-at, grant-none, grant-free, grant-old, grant-unless, pinNet}
 use Rattle.sweep.specs.Working.{nobody, topNet, bottomNet}
 use Rattle.sweep.proofs.Gaps.Pins.{Reaches}
-use Rattle.sweep.proofs.Actions.Good.{Good, BothOn, pick-diff, other-track, other-gift, top-run, bottom-run, pins-sound}
+use Rattle.sweep.proofs.Actions.Good.{Good, BothOn, pick-diff, other-track, other-gift, top-run, bottom-run, pin-wires-sound}
 use Rattle.sweep.proofs.Actions.Good.{bottom-end, none-ends, one-leaves-on}
 
 -- net N leaves on the free track y, gives its strand z away and keeps its other strand o where it has not one alone: no track is given twice
@@ -41,7 +41,7 @@ module _ (top bottom : List ℕ) (c t : ℕ) (tr : List ℕ) (size : length tr �
       → (B .net ≢ 0 → Out (direct A B q p y w) tr (B .net) 0 q) → (A .net ≢ 0 → Out (direct A B q p y w) tr (A .net) p (suc t))
       → Good top bottom c t tr (A .net) (B .net) (direct A B q p y w)
   direct-good q p y w a b e g few o1 o2 = (
-    pins-sound a b e (one-track (direct A B q p y w) refl refl) g grant-none grant-none (pinNet (nobody refl)) (nobody refl) (λ n m k. o1 n) (λ n m k. o2 n)
+    pin-wires-sound a b e (one-track (direct A B q p y w) refl refl) g grant-none grant-none (pinNet (nobody refl)) (nobody refl) (λ n m k. o1 n) (λ n m k. o2 n)
         (λ n. absurd (n refl)) (λ n. absurd (n refl)),
     none-ends top bottom c t tr (direct A B q p y w) pinsOn (λ v n m. omega (arith, few v)) refl refl,
   )
@@ -105,7 +105,7 @@ module _ (top bottom : List ℕ) (c t : ℕ) (tr : List ℕ) (size : length tr �
     -- A NET JOINS ITS TWO STRANDS, and leaves one of them to the other pin's net
     pub topJoins-good : Reaches tr A → A .many ≢ 1 → Good top bottom c t tr (A .net) (B .net) (topJoins A B)
     topJoins-good a m = (
-      pins-sound (omega arith) (omega (arith, a .lowIs)) (bottom-end t (topJoins A B) (omega (arith, a .lowIs)) (omega (arith, a .lowIs))) apart
+      pin-wires-sound (omega arith) (omega (arith, a .lowIs)) (bottom-end t (topJoins A B) (omega (arith, a .lowIs)) (omega (arith, a .lowIs))) apart
           (grant-old (a .highIs) (topNet refl)) (grant-old (a .lowIs) (bottomNet refl)) grant-none (pinNet (topNet refl)) (nobody refl)
           (λ n i k. (A .low, two-leaves (topJoins A B) tr apart (a .lowIs) refl, omega arith, omega arith))
           (λ n i k. absurd (i refl))
@@ -130,7 +130,7 @@ module _ (top bottom : List ℕ) (c t : ℕ) (tr : List ℕ) (size : length tr �
     -- mirrored
     pub bottomJoins-good : Reaches tr B → B .many ≢ 1 → Good top bottom c t tr (A .net) (B .net) (bottomJoins A B)
     bottomJoins-good b m = (
-      pins-sound (omega arith) (omega (arith, b .highIs)) (bottom-end t (bottomJoins A B) (omega (arith, b .highIs)) (omega (arith, b .highIs))) apart
+      pin-wires-sound (omega arith) (omega (arith, b .highIs)) (bottom-end t (bottomJoins A B) (omega (arith, b .highIs)) (omega (arith, b .highIs))) apart
           (grant-old (b .lowIs) (bottomNet refl)) (grant-old (b .highIs) (topNet refl)) grant-none (pinNet (bottomNet refl)) (nobody refl)
           (λ n i k. absurd (i refl))
           (λ n i k. (B .high, two-leaves (bottomJoins A B) tr apart (b .highIs) refl, omega arith, omega (arith, b .highIs)))
@@ -156,7 +156,7 @@ module _ (top bottom : List ℕ) (c t : ℕ) (tr : List ℕ) (size : length tr �
     pub topMoves-good : (f : Free) → Reaches tr A → A .many ≤ 2 → Strand 0 tr (f .first) → A .high ≤ f .first
         → Good top bottom c t tr (A .net) (B .net) (topMoves A B f)
     topMoves-good f a few s p = (
-      pins-sound (omega arith) (omega (arith, a .highIs)) (bottom-end t (topMoves A B f) (omega (arith, a .highIs)) (omega (arith, a .highIs))) apart
+      pin-wires-sound (omega arith) (omega (arith, a .highIs)) (bottom-end t (topMoves A B f) (omega (arith, a .highIs)) (omega (arith, a .highIs))) apart
           (grant-free s (topNet refl)) (grant-old (a .highIs) (bottomNet refl)) (grant-unless (eqb (A .many) 1) (grant-old (a .lowIs) (topNet refl)))
           (pinNet (topNet refl)) (nobody refl)
           (λ n m k. (A .high, two-leaves (topMoves A B f) tr apart (a .highIs) refl, omega arith, omega arith))
@@ -211,7 +211,7 @@ module _ (top bottom : List ℕ) (c t : ℕ) (tr : List ℕ) (size : length tr �
     pub bottomMoves-good : (f : Free) → Reaches tr B → B .many ≤ 2 → Strand 0 tr (f .first) → f .first ≤ B .low
         → Good top bottom c t tr (A .net) (B .net) (bottomMoves A B f)
     bottomMoves-good f b few s p = (
-      pins-sound (omega arith) (omega (arith, b .lowIs)) (bottom-end t (bottomMoves A B f) (omega (arith, b .lowIs)) (omega (arith, b .lowIs))) apart
+      pin-wires-sound (omega arith) (omega (arith, b .lowIs)) (bottom-end t (bottomMoves A B f) (omega (arith, b .lowIs)) (omega (arith, b .lowIs))) apart
           (grant-free s (bottomNet refl)) (grant-old (b .lowIs) (topNet refl)) (grant-unless (eqb (B .many) 1) (grant-old (b .highIs) (bottomNet refl)))
           (pinNet (bottomNet refl)) (nobody refl)
           (λ n m k. absurd (m refl))

@@ -14,14 +14,14 @@ use Rattle.sweep.proofs.Tracks.After.{Gives, gives, one-track, one-leav
 use Rattle.sweep.proofs.Columns.Sound.{grant-none, grant-old, grant-unless, pinNet}
 use Rattle.sweep.specs.Working.{nobody, topNet, bottomNet}
 use Rattle.sweep.proofs.Gaps.Pins.{Reaches, Off}
-use Rattle.sweep.proofs.Actions.Good.{Good, Begun, taken-some, top-run, bottom-run, pins-sound, bottom-end}
+use Rattle.sweep.proofs.Actions.Good.{Good, Begun, taken-some, top-run, bottom-run, pin-wires-sound, bottom-end}
 
 module _ (top bottom : List ℕ) (c t : ℕ) (tr : List ℕ) (size : length tr ≡ t) (A B : Pin) (d : B .net ≢ A .net) where
   -- THE TOP NET ENDS: it joins all strands up to its pin, and the bottom pin's net, where there is one, takes the lowest
   pub topEnds-good : Reaches tr A → Off top bottom c (A .net) → Begun top bottom c t tr (A .net) (B .net)
       → Good top bottom c t tr (A .net) (B .net) (topEnds A B)
   topEnds-good a z begun = (
-    pins-sound (omega arith) (omega (arith, a .lowIs)) (bottom-end t (topEnds A B) (omega (arith, a .lowIs)) (omega (arith, a .lowIs)))
+    pin-wires-sound (omega arith) (omega (arith, a .lowIs)) (bottom-end t (topEnds A B) (omega (arith, a .lowIs)) (omega (arith, a .lowIs)))
         (one-track (topEnds A B) refl refl)
         (grant-unless (eqb (B .net) 0) (grant-old (a .lowIs) (bottomNet refl))) grant-none grant-none (pinNet (topNet refl)) (nobody refl)
         (λ n m k. (A .low, given-leaves n, omega arith, omega arith))
@@ -52,7 +52,7 @@ module _ (top bottom : List ℕ) (c t : ℕ) (tr : List ℕ) (size : length tr �
   pub bottomEnds-good : Reaches tr B → Off top bottom c (B .net) → Begun top bottom c t tr (A .net) (B .net)
       → Good top bottom c t tr (A .net) (B .net) (bottomEnds A B)
   bottomEnds-good b z begun = (
-    pins-sound (omega arith) (omega (arith, b .highIs)) (bottom-end t (bottomEnds A B) (omega (arith, b .highIs)) (omega (arith, b .highIs)))
+    pin-wires-sound (omega arith) (omega (arith, b .highIs)) (bottom-end t (bottomEnds A B) (omega (arith, b .highIs)) (omega (arith, b .highIs)))
         (one-track (bottomEnds A B) refl refl)
         (grant-unless (eqb (A .net) 0) (grant-old (b .highIs) (topNet refl))) grant-none grant-none (pinNet (bottomNet refl)) (nobody refl)
         (λ n m k. absurd (m refl))
@@ -83,7 +83,7 @@ module _ (top bottom : List ℕ) (c t : ℕ) (tr : List ℕ) (size : length tr �
   pub bothJoin-good : Reaches tr A → Reaches tr B → Off top bottom c (A .net) → Off top bottom c (B .net) → B .high < A .low
       → Good top bottom c t tr (A .net) (B .net) (bothJoin A B)
   bothJoin-good a b z y p = (
-    pins-sound (omega arith) (omega (arith, a .lowIs)) (bottom-end t (bothJoin A B) (omega (arith, a .lowIs)) (omega (arith, b .highIs)))
+    pin-wires-sound (omega arith) (omega (arith, a .lowIs)) (bottom-end t (bothJoin A B) (omega (arith, a .lowIs)) (omega (arith, b .highIs)))
         (one-track (bothJoin A B) refl refl)
         grant-none grant-none grant-none (pinNet (topNet refl)) (bottomNet refl)
         (λ n m k. absurd (k refl))

@@ -14,13 +14,13 @@ use Rattle.sweep.proofs.Tracks.After.{one-track, two-tracks, one-leaves
 use Rattle.sweep.proofs.Columns.Sound.{Grant, grant-none, grant-free, pinNet}
 use Rattle.sweep.specs.Working.{nobody, topNet, bottomNet}
 use Rattle.sweep.proofs.Gaps.Pins.{On, Off}
-use Rattle.sweep.proofs.Actions.Good.{Good, BothOn, none-ends, pins-sound, bottom-end, back-within}
+use Rattle.sweep.proofs.Actions.Good.{Good, BothOn, none-ends, pin-wires-sound, bottom-end, back-within}
 
 module _ (top bottom : List ℕ) (c t : ℕ) (tr : List ℕ) (size : length tr ≡ t) where
   -- NO PINS
   pub straight-good : Good top bottom c t tr 0 0 straight
   straight-good = (
-    pins-sound zero-le zero-le (segment-run (order t) (topRun refl) 0 zero-le (omega arith)) (one-track straight refl refl) grant-none grant-none grant-none
+    pin-wires-sound zero-le zero-le (segment-run (order t) (topRun refl) 0 zero-le (omega arith)) (one-track straight refl refl) grant-none grant-none grant-none
         (pinNet (nobody refl)) (nobody refl)
         (λ n m k. absurd (n refl)) (λ n m k. absurd (n refl)) (λ n. absurd (n refl)) (λ n. absurd (n refl)),
     none-ends top bottom c t tr straight (λ v n here. absurd (⊎-elim (λ i. n (sym i)) (λ i. n (sym i)) here)) (λ v n m. zero-le) refl refl,
@@ -75,7 +75,7 @@ module _ (top bottom : List ℕ) (c t : ℕ) (tr : List ℕ) (size : length tr �
   -- STARTING PINS ON FREE TRACKS
   pub topTakesFree-good : (f : Free) (a : ℕ) → Strand 0 tr (f .first) → BothOn top bottom c t tr a 0 → Good top bottom c t tr a 0 (topTakesFree f a)
   topTakesFree-good f a s on = (
-    pins-sound zero-le (omega arith) (segment-none order 0 zero-le (omega arith) (inr zero-le)) (one-track (topTakesFree f a) refl refl)
+    pin-wires-sound zero-le (omega arith) (segment-none order 0 zero-le (omega arith) (inr zero-le)) (one-track (topTakesFree f a) refl refl)
         (grant-free s (topNet refl)) grant-none grant-none (pinNet (nobody refl)) (nobody refl)
         (λ n m k. absurd (n refl))
         (λ n m k. (f .first, one-leaves (topTakesFree f a) tr (one-track (topTakesFree f a) refl refl) s refl, omega arith, omega arith))
@@ -89,7 +89,7 @@ module _ (top bottom : List ℕ) (c t : ℕ) (tr : List ℕ) (size : length tr �
   -- the bottom pin alone
   pub bottomTakesFree-good : (f : Free) (b : ℕ) → Strand 0 tr (f .first) → BothOn top bottom c t tr 0 b → Good top bottom c t tr 0 b (bottomTakesFree f b)
   bottomTakesFree-good f b s on = (
-    pins-sound (omega arith) (omega arith) (bottom-end t (bottomTakesFree f b) (omega arith) (omega arith)) (one-track (bottomTakesFree f b) refl refl)
+    pin-wires-sound (omega arith) (omega arith) (bottom-end t (bottomTakesFree f b) (omega arith) (omega arith)) (one-track (bottomTakesFree f b) refl refl)
         (grant-free s (bottomNet refl)) grant-none grant-none (pinNet (nobody refl)) (nobody refl)
         (λ n m k. (f .first, one-leaves (bottomTakesFree f b) tr (one-track (bottomTakesFree f b) refl refl) s refl, omega arith, omega arith))
         (λ n m k. absurd (n refl))
@@ -102,7 +102,7 @@ module _ (top bottom : List ℕ) (c t : ℕ) (tr : List ℕ) (size : length tr �
       → Good top bottom c t tr a b (bothTakeFree f a b)
   bothTakeFree-good f a b s r p on =
       let d = two-tracks (bothTakeFree f a b) (omega arith) refl in (
-        pins-sound (omega arith) (omega arith) (bottom-end t (bothTakeFree f a b) (omega arith) (omega arith)) d (grant-free s (bottomNet refl))
+        pin-wires-sound (omega arith) (omega arith) (bottom-end t (bothTakeFree f a b) (omega arith) (omega arith)) d (grant-free s (bottomNet refl))
             (grant-free r (topNet refl)) grant-none (pinNet (nobody refl)) (nobody refl)
             (λ n m k. (f .first, one-leaves (bothTakeFree f a b) tr d s refl, omega arith, omega arith))
             (λ n m k. (f .second, two-leaves (bothTakeFree f a b) tr d r refl, omega arith, omega arith))

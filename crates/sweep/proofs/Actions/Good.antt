@@ -15,7 +15,7 @@ use Rattle.grid.proofs.Drawings.Segments.{Ordered, segment-run, Fares, alone, b
 use Rattle.sweep.specs.declared.Action.{Action}
 use Rattle.sweep.specs.Tracks.{after}
 use Rattle.sweep.specs.Working.{Named}
-use Rattle.sweep.specs.Rules.{pins, goes, act, taken}
+use Rattle.sweep.specs.Rules.{pinWires, goes, act, taken}
 use Rattle.sweep.proofs.Tracks.Strands.{Strand}
 use Rattle.sweep.proofs.Tracks.After.{Gives, Distinct, after-length, after-back, gift, gift-le, gift-other, gifts}
 use Rattle.sweep.proofs.Columns.Sound.{Sound, Known, Grant, Out, on}
@@ -94,16 +94,16 @@ module _ (t : ℕ) (tr : List ℕ) (size : length tr ≡ t) (x : Action) (empty 
       (back-within x tr (x .wires .bottom) 0 (x .wires .low) n (λ j e. (zero-le, ins j e)) (λ j p g. (zero-le, outs j g)))
 
 -- AN ACTION WITH NO MIDDLE RUN whose top net's run begins on a track is sound
-pub pins-sound : {t P Q q p e c t1 n1 t2 n2 t3 n3 : ℕ} {tr : List ℕ} → q ≤ p → p ≤ t
-    → segment ((act (pins Q q P p) e c (goes t1 n1) (goes t2 n2) (goes t3 n3)) .wires) 0 ≡ Q
-    → Distinct (act (pins Q q P p) e c (goes t1 n1) (goes t2 n2) (goes t3 n3))
+pub pin-wires-sound : {t P Q q p e c t1 n1 t2 n2 t3 n3 : ℕ} {tr : List ℕ} → q ≤ p → p ≤ t
+    → segment ((act (pinWires Q q P p) e c (goes t1 n1) (goes t2 n2) (goes t3 n3)) .wires) 0 ≡ Q
+    → Distinct (act (pinWires Q q P p) e c (goes t1 n1) (goes t2 n2) (goes t3 n3))
     → Grant P Q e tr t1 n1 → Grant P Q e tr t2 n2 → Grant P Q e tr t3 n3 → Known P Q tr e → Named P Q e c
-    → (Q ≢ 0 → e ≢ Q → c ≢ Q → Out (act (pins Q q P p) e c (goes t1 n1) (goes t2 n2) (goes t3 n3)) tr Q 0 q)
-    → (P ≢ 0 → e ≢ P → c ≢ P → Out (act (pins Q q P p) e c (goes t1 n1) (goes t2 n2) (goes t3 n3)) tr P p (suc t))
-    → (e ≢ 0 → Fares t ((act (pins Q q P p) e c (goes t1 n1) (goes t2 n2) (goes t3 n3)) .wires) (on tr) (on (after (act (pins Q q P p) e c (goes t1 n1) (goes t2 n2) (goes t3 n3)) tr)) e)
-    → (c ≢ 0 → Fares t ((act (pins Q q P p) e c (goes t1 n1) (goes t2 n2) (goes t3 n3)) .wires) (on tr) (on (after (act (pins Q q P p) e c (goes t1 n1) (goes t2 n2) (goes t3 n3)) tr)) c)
-    → Sound t P Q tr (act (pins Q q P p) e c (goes t1 n1) (goes t2 n2) (goes t3 n3))
-pins-sound {t} {P} {Q} {q} {p} {e} {c} {t1} {n1} {t2} {n2} {t3} {n3} a b v d g1 g2 g3 k1 k2 o1 o2 f1 f2 = record {
+    → (Q ≢ 0 → e ≢ Q → c ≢ Q → Out (act (pinWires Q q P p) e c (goes t1 n1) (goes t2 n2) (goes t3 n3)) tr Q 0 q)
+    → (P ≢ 0 → e ≢ P → c ≢ P → Out (act (pinWires Q q P p) e c (goes t1 n1) (goes t2 n2) (goes t3 n3)) tr P p (suc t))
+    → (e ≢ 0 → Fares t ((act (pinWires Q q P p) e c (goes t1 n1) (goes t2 n2) (goes t3 n3)) .wires) (on tr) (on (after (act (pinWires Q q P p) e c (goes t1 n1) (goes t2 n2) (goes t3 n3)) tr)) e)
+    → (c ≢ 0 → Fares t ((act (pinWires Q q P p) e c (goes t1 n1) (goes t2 n2) (goes t3 n3)) .wires) (on tr) (on (after (act (pinWires Q q P p) e c (goes t1 n1) (goes t2 n2) (goes t3 n3)) tr)) c)
+    → Sound t P Q tr (act (pinWires Q q P p) e c (goes t1 n1) (goes t2 n2) (goes t3 n3))
+pin-wires-sound {t} {P} {Q} {q} {p} {e} {c} {t1} {n1} {t2} {n2} {t3} {n3} a b v d g1 g2 g3 k1 k2 o1 o2 f1 f2 = record {
   order = order;
   bottomIs = refl;
   topIs = refl;
@@ -123,7 +123,7 @@ pins-sound {t} {P} {Q} {q} {p} {e} {c} {t1} {n1} {t2} {n2} {t3} {n3} a b v d g1 
   closedFares = f2;
 }
   where
-    order : Ordered t ((act (pins Q q P p) e c (goes t1 n1) (goes t2 n2) (goes t3 n3)) .wires)
+    order : Ordered t ((act (pinWires Q q P p) e c (goes t1 n1) (goes t2 n2) (goes t3 n3)) .wires)
     order = omega arith
 
 -- a bottom net that has a run begins it at row 0

@@ -6,17 +6,17 @@ use lib.ListN.{length, getD}
 use Rattle.grid.specs.Segments.{segment}
 use Rattle.grid.proofs.Drawings.Segments.{Draws, draws-list}
 use Rattle.sweep.specs.declared.Action.{Action}
-use Rattle.sweep.specs.Tracks.{listed, verticals}
+use Rattle.sweep.specs.Tracks.{valuesFrom, verticals}
 
 -- a list of values, by index
-pub getD-listed : (k y i : ℕ) (f : ℕ → ℕ) → i < k → getD (listed k y f) i 0 ≡ f (y + i)
-unfolding listed
+pub getD-listed : (k y i : ℕ) (f : ℕ → ℕ) → i < k → getD (valuesFrom k y f) i 0 ≡ f (y + i)
+unfolding valuesFrom
 getD-listed zero y i f h = absurd (omega arith)
 getD-listed (suc k) y zero f h = ap f (omega arith)
 getD-listed (suc k) y (suc i) f h = getD-listed k (suc y) i f (omega arith) ∙ ap f (omega arith)
 
-pub length-listed : (k y : ℕ) (f : ℕ → ℕ) → length (listed k y f) ≡ k
-unfolding listed
+pub length-listed : (k y : ℕ) (f : ℕ → ℕ) → length (valuesFrom k y f) ≡ k
+unfolding valuesFrom
 length-listed zero y f = refl
 length-listed (suc k) y f = ap suc (length-listed k (suc y) f)
 

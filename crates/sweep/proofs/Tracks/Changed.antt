@@ -5,45 +5,28 @@ use mathlib.Core.Bool.{Bool, true, false}
 use mathlib.Core.List.{List, [], _∷_}
 use mathlib.Core.Logic.{_⊎_, inl, inr, ⊎-elim}
 use native.Mathlib.Omega.{arith}
-use lib.Dec.{eqb, ltb}
-use borrow.Author.Tests.{eq-eqb, ne-eqb, eqb-true, ltb-true, ltb-false}
+use lib.Dec.{eqb}
+use borrow.Author.Tests.{eq-eqb, ne-eqb, eqb-true}
 use lib.ListN.{length, drop, getD, set, length-drop}
 use lib.Seq.{getD-drop}
 use Rattle.grid.specs.Channel.{pick, bit, times}
-use Rattle.grid.proofs.Tests.{Same, same, sameBy}
+use Rattle.grid.proofs.Tests.{Same, same, sameBy, below-or}
 use Rattle.sweep.specs.Tracks.{strandsFrom, first, last, lesser, clear}
 use Rattle.sweep.proofs.Tracks.Strands.{between-from}
-
--- below, at or above
-pub before-at-after : (i y : ℕ) → (i < y) ⊎ ((i ≡ y) ⊎ (y < i))
-before-at-after i y = go (ltb i y) (ltb y i) refl refl
-  where
-    go : (p q : Bool) → ltb i y ≡ p → ltb y i ≡ q → (i < y) ⊎ ((i ≡ y) ⊎ (y < i))
-    go true q e f = inl (ltb-true i y e)
-    go false true e f = inr (inr (ltb-true y i f))
-    go false false e f = inr (inl (omega (arith, ltb-false i y e, ltb-false y i f)))
-
--- below or not
-pub below-or : (i y : ℕ) → (i < y) ⊎ (y ≤ i)
-below-or i y = go (ltb i y) refl
-  where
-    go : (p : Bool) → ltb i y ≡ p → (i < y) ⊎ (y ≤ i)
-    go true e = inl (ltb-true i y e)
-    go false e = inr (ltb-false i y e)
 
 -- ---- all strands of a net end
 
 -- the ended net is gone from a track
-swept-own : (v x : ℕ) → 0 < v → eqb (pick (eqb x v) 0 x) v ≡ false
-swept-own v x h = go (eqb x v) refl
+pub cleared-track : (v x : ℕ) → 0 < v → eqb (pick (eqb x v) 0 x) v ≡ false
+cleared-track v x h = go (eqb x v) refl
   where
     go : (p : Bool) → eqb x v ≡ p → eqb (pick p 0 x) v ≡ false
     go true e = ne-eqb 0 v (omega arith)
     go false e = e
 
 -- another net stays
-swept-other : (u v x : ℕ) → 0 < u → (u ≡ v → ⊥) → eqb (pick (eqb x v) 0 x) u ≡ eqb x u
-swept-other u v x h n = go (eqb x v) refl
+others-track : (u v x : ℕ) → 0 < u → (u ≡ v → ⊥) → eqb (pick (eqb x v) 0 x) u ≡ eqb x u
+others-track u v x h n = go (eqb x v) refl
   where
     go : (p : Bool) → eqb x v ≡ p → eqb (pick p 0 x) u ≡ eqb x u
     go true e = ne-eqb 0 u (omega arith) ∙ sym (ne-eqb x u (λ d. n (sym d ∙ eqb-true x v e)))
@@ -53,13 +36,13 @@ swept-other u v x h n = go (eqb x v) refl
 pub cleared-own : (y v : ℕ) (l : List ℕ) → 0 < v → strandsFrom y v (clear v l) ≡ []
 unfolding strandsFrom clear
 cleared-own y v [] h = refl
-cleared-own y v (x ∷ xs) h = rw (swept-own v x h) (cleared-own (suc y) v xs h)
+cleared-own y v (x ∷ xs) h = rw (cleared-track v x h) (cleared-own (suc y) v xs h)
 
 -- other nets keep theirs
 pub cleared-other : (y u v : ℕ) (l : List ℕ) → 0 < u → (u ≡ v → ⊥) → strandsFrom y u (clear v l) ≡ strandsFrom y u l
 unfolding strandsFrom clear
 cleared-other y u v [] h n = refl
-cleared-other y u v (x ∷ xs) h n = rw (swept-other u v x h n) (ap (λ (s : List ℕ). pick (eqb x u) (y ∷ s) s) (cleared-other (suc y) u v xs h n))
+cleared-other y u v (x ∷ xs) h n = rw (others-track u v x h n) (ap (λ (s : List ℕ). pick (eqb x u) (y ∷ s) s) (cleared-other (suc y) u v xs h n))
 
 -- to end net 0, or a net that has no strands, changes nothing
 pub clear-idle : (w : ℕ) (l : List ℕ) → (w ≡ 0) ⊎ (times w l ≡ 0) → clear w l ≡ l
@@ -223,10 +206,10 @@ first-at y v (x ∷ xs) (suc j) b e h =
     rw (ne-eqb x v (h 0 (omega arith))) (first-at (suc y) v xs j (omega arith) e (λ i c. h (suc i) (omega arith)) ∙ same)
 
 -- none found: no strands
-none-at : (y v : ℕ) (l : List ℕ) → ((i : ℕ) → i < length l → getD l i 0 ≡ v → ⊥) → strandsFrom y v l ≡ []
+pub no-strands : (y v : ℕ) (l : List ℕ) → ((i : ℕ) → i < length l → getD l i 0 ≡ v → ⊥) → strandsFrom y v l ≡ []
 unfolding strandsFrom
-none-at y v [] h = refl
-none-at y v (x ∷ xs) h = rw (ne-eqb x v (h 0 (omega arith))) (none-at (suc y) v xs (λ i c. h (suc i) (omega arith)))
+no-strands y v [] h = refl
+no-strands y v (x ∷ xs) h = rw (ne-eqb x v (h 0 (omega arith))) (no-strands (suc y) v xs (λ i c. h (suc i) (omega arith)))
 
 -- the strands after the lowest
 tail-at : (y v : ℕ) (l : List ℕ) (a : ℕ) → first (strandsFrom (suc y) v l) ≡ suc (y + a) → drop 1 (strandsFrom (suc y) v l) ≡ strandsFrom (suc (suc (y + a))) v (drop (suc a) l)
@@ -280,5 +263,5 @@ unfolding first
 second-none v l zero e h = rw (first-zero 0 v l (sym e))
 second-none v l (suc a) e h =
     let same : suc (0 + a) ≡ suc a = omega arith in
-    let n : strandsFrom (suc (suc (0 + a))) v (drop (suc a) l) ≡ [] = none-at (suc (suc (0 + a))) v (drop (suc a) l) (λ i c q. h i (omega (arith, length-drop (suc a) l)) (sym (getD-drop (suc a) l i 0) ∙ q)) in
+    let n : strandsFrom (suc (suc (0 + a))) v (drop (suc a) l) ≡ [] = no-strands (suc (suc (0 + a))) v (drop (suc a) l) (λ i c q. h i (omega (arith, length-drop (suc a) l)) (sym (getD-drop (suc a) l i 0) ∙ q)) in
     rw (tail-at 0 v l a (sym e ∙ sym same), n)

@@ -3,8 +3,8 @@ use borrow.Author.Needs.{needs}
 use Rattle.rules.proofs.actions.both_join.Statement.{statement}
 use Rattle.rules.proofs.actions.both_join.Tie as tie
 
-pins-requires : tie.Need-pins-requires
-pins-requires c κs = search needs
+pin-wires-requires : tie.Need-pin-wires-requires
+pin-wires-requires c κs = search needs
 
 no-track-requires : tie.Need-no-track-requires
 no-track-requires c κs = search needs
@@ -21,4 +21,4 @@ returns c = cc
 pub both-join-spec : {M : Type 1} → statement M
 both-join-spec =
     tie.close
-    (tie.spec pins-requires no-track-requires no-track-requires-2 no-track-requires-3 returns)
+    (tie.spec pin-wires-requires no-track-requires no-track-requires-2 no-track-requires-3 returns)

@@ -3,8 +3,8 @@ use borrow.Author.Needs.{needs}
 use Rattle.rules.proofs.actions.both_take_free.Statement.{statement}
 use Rattle.rules.proofs.actions.both_take_free.Tie as tie
 
-pins-requires : tie.Need-pins-requires
-pins-requires c κs = search needs
+pin-wires-requires : tie.Need-pin-wires-requires
+pin-wires-requires c κs = search needs
 
 goes-requires : tie.Need-goes-requires
 goes-requires c κs = search needs
@@ -25,7 +25,7 @@ pub both-take-free-spec : {M : Type 1} → statement M
 both-take-free-spec =
     tie.close
     (tie.spec
-    pins-requires
+    pin-wires-requires
     goes-requires
     goes-requires-2
     no-track-requires

@@ -5,8 +5,8 @@ use borrow.Author.Needs.{needs}
 use Rattle.rules.proofs.actions.go_full.Statement.{statement}
 use Rattle.rules.proofs.actions.go_full.Tie as tie
 
-pins-requires : tie.Need-pins-requires
-pins-requires c κs = search needs
+pin-wires-requires : tie.Need-pin-wires-requires
+pin-wires-requires c κs = search needs
 
 goes-requires : tie.Need-goes-requires
 goes-requires c κs = search needs
@@ -19,4 +19,4 @@ returns c t e = cc (e ∙ add-one t)
 
 pub go-full-spec : {M : Type 1} → statement M
 go-full-spec =
-    tie.close (tie.spec pins-requires goes-requires one-gift-requires returns)
+    tie.close (tie.spec pin-wires-requires goes-requires one-gift-requires returns)

@@ -3,8 +3,8 @@ use borrow.Author.Needs.{needs}
 use Rattle.rules.proofs.actions.top_ends.Statement.{statement}
 use Rattle.rules.proofs.actions.top_ends.Tie as tie
 
-pins-requires : tie.Need-pins-requires
-pins-requires c κs = search needs
+pin-wires-requires : tie.Need-pin-wires-requires
+pin-wires-requires c κs = search needs
 
 track-for-requires : tie.Need-track-for-requires
 track-for-requires c κs = search needs
@@ -20,4 +20,4 @@ returns c = cc
 
 pub top-ends-spec : {M : Type 1} → statement M
 top-ends-spec =
-    tie.close (tie.spec pins-requires track-for-requires goes-requires one-gift-requires returns)
+    tie.close (tie.spec pin-wires-requires track-for-requires goes-requires one-gift-requires returns)

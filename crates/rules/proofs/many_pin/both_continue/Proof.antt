@@ -12,8 +12,8 @@ returns : tie.Need-returns
 unfolding ManyPin.bothContinue
 returns c = simp (lt-ltb _ _ (c .before .if1 .taken)) (c .go-direct .ensures)
 
-pins-requires : tie.Need-pins-requires
-pins-requires c κs = search needs
+pin-wires-requires : tie.Need-pin-wires-requires
+pin-wires-requires c κs = search needs
 
 goes-requires : tie.Need-goes-requires
 goes-requires c κs = search needs
@@ -31,8 +31,8 @@ returns-2 : tie.Need-returns-2
 unfolding ManyPin.bothContinue
 returns-2 c = simp (le-ltb _ _ (c .before .before .before .before .before .before .before .if1 .left), eq-eqb _ _ (c .before .before .before .before .before .if2 .taken)) (cc)
 
-pins-requires-2 : tie.Need-pins-requires-2
-pins-requires-2 c κs = search needs
+pin-wires-requires-2 : tie.Need-pin-wires-requires-2
+pin-wires-requires-2 c κs = search needs
 
 goes-requires-3 : tie.Need-goes-requires-3
 goes-requires-3 c κs = search needs
@@ -63,13 +63,13 @@ both-continue-spec =
     (tie.spec
     go-direct-requires
     returns
-    pins-requires
+    pin-wires-requires
     goes-requires
     goes-requires-2
     no-track-requires
     three-gifts-requires
     returns-2
-    pins-requires-2
+    pin-wires-requires-2
     goes-requires-3
     goes-requires-4
     no-track-requires-2

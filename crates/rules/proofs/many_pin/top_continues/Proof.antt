@@ -5,8 +5,8 @@ use borrow.Author.Needs.{needs}
 use Rattle.rules.proofs.many_pin.top_continues.Statement.{statement}
 use Rattle.rules.proofs.many_pin.top_continues.Tie as tie
 
-pins-requires : tie.Need-pins-requires
-pins-requires c κs = search needs
+pin-wires-requires : tie.Need-pin-wires-requires
+pin-wires-requires c κs = search needs
 
 goes-requires : tie.Need-goes-requires
 goes-requires c κs = search needs
@@ -18,8 +18,8 @@ returns : tie.Need-returns
 unfolding ManyPin.topContinues
 returns c = simp (lt-ltb _ _ (c .before .before .before .if1 .taken)) (cc)
 
-pins-requires-2 : tie.Need-pins-requires-2
-pins-requires-2 c κs = search needs
+pin-wires-requires-2 : tie.Need-pin-wires-requires-2
+pin-wires-requires-2 c κs = search needs
 
 goes-requires-2 : tie.Need-goes-requires-2
 goes-requires-2 c κs = search needs
@@ -44,11 +44,11 @@ pub top-continues-spec : {M : Type 1} → statement M
 top-continues-spec =
     tie.close
     (tie.spec
-    pins-requires
+    pin-wires-requires
     goes-requires
     one-gift-requires
     returns
-    pins-requires-2
+    pin-wires-requires-2
     goes-requires-2
     goes-requires-3
     track-if-more-requires
