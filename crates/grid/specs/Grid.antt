@@ -2,12 +2,13 @@
 -- A drawing of w columns and t tracks is a list of w columns of 2t + 1 entries: "vertical edges from row 0 upward, then the horizontal edges leaving to
 -- the right from track 1 upward". Here columns are counted from 0; the vertical entry y joins the rows y and y + 1; the horizontal entry j lies on track
 -- j + 1 and joins its column to the next. Outside the drawing both are 0.
-use Prim.Native.Nat.{ℕ, suc, _+_, _*_, _≤_, _<_}
+use Prim.Native.Nat.{ℕ, zero, suc, _+_, _*_, _≤_, _<_}
 use mathlib.Core.Path.{_≡_}
 use mathlib.Core.Logic.{_≢_, _⊎_}
 use mathlib.Core.List.{List}
+use lib.Dec.{eqb}
 use lib.ListN.{length, take, drop, getD}
-use Rattle.grid.specs.Channel.{pins}
+use Rattle.grid.specs.Channel.{bit, pins}
 
 -- "A column is 2t + 1 entries … Columns follow one another": the entries of column x
 abbrev pub columnOf : (D : List ℕ) (t x : ℕ) → List ℕ
@@ -40,8 +41,25 @@ pub data Ends (v h : ℕ → ℕ → ℕ) (N k : ℕ) : ℕ → ℕ → Type 0 w
 pub record OnePiece (v h : ℕ → ℕ → ℕ) (N : ℕ) : Type 0 where
   pub linked : {k x y k′ x′ y′ : ℕ} → Ends v h N k x y → Ends v h N k′ x′ y′ → Linked v h N x y x′ y′
 
--- "A drawing is a solution if:"
-pub record Solution (top bottom : List ℕ) (w t : ℕ) (D : List ℕ) : Type 0 where
+-- the horizontal entry that comes to column x on track j + 1; none comes to the first column
+abbrev pub comesTo : (h : ℕ → ℕ → ℕ) (x j : ℕ) → ℕ
+comesTo h zero j = 0
+comesTo h (suc x) j = h x j
+
+-- how many of the four entries that meet at a grid point are N: the one below it, above it, to its left and to its right
+abbrev pub edgesAmong : (below above leftward rightward N : ℕ) → ℕ
+edgesAmong below above leftward rightward N = bit (eqb below N) + (bit (eqb above N) + (bit (eqb leftward N) + bit (eqb rightward N)))
+
+-- the number of edges of net N at the grid point of column x on track j + 1
+unfoldable pub edgesAt : (v h : ℕ → ℕ → ℕ) (N x j : ℕ) → ℕ
+edgesAt v h N x j = edgesAmong (v x j) (v x (suc j)) (comesTo h x j) (h x j) N
+
+-- document 02, Job 1: "at each grid point on rows 1 to t, a net has no edge or at least two."
+abbrev pub NoLooseEnd : (v h : ℕ → ℕ → ℕ) (w t N : ℕ) → Type 0
+NoLooseEnd v h w t N = (x j : ℕ) → x < w → j < t → edgesAt v h N x j ≢ 1
+
+-- document 01, "A drawing is a solution if:"; loose ends are allowed
+pub record Wiring (top bottom : List ℕ) (w t : ℕ) (D : List ℕ) : Type 0 where
   pub size : length D ≡ w * (2 * t + 1)
   -- "w is at least n;"
   pub covers : length top ≤ w
@@ -55,3 +73,8 @@ pub record Solution (top bottom : List ℕ) (w t : ℕ) (D : List ℕ) : Type 0 
   pub last : (x j : ℕ) → suc x ≡ w → horizontalOf D t x j ≡ 0
   -- "and the edges of each net are one piece, linked at shared grid points."
   pub pieces : (N : ℕ) → N ≢ 0 → OnePiece (verticalOf D t) (horizontalOf D t) N
+
+-- document 02, Job 1: "From now on a solution also needs this"
+pub record Solution (top bottom : List ℕ) (w t : ℕ) (D : List ℕ) : Type 0 where
+  pub wiring : Wiring top bottom w t D
+  pub ends : (N : ℕ) → N ≢ 0 → NoLooseEnd (verticalOf D t) (horizontalOf D t) w t N

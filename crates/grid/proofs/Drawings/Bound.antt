@@ -1,4 +1,4 @@
--- A solution has at least as many tracks as the density. Assumes nothing.
+-- A drawing of document 01 has at least as many tracks as the density, loose ends or not. Assumes nothing.
 use Prim.Native.Nat.{ℕ, suc, _+_, _≤_, _<_}
 use mathlib.Core.Path.{_≡_, _∙_}
 use mathlib.Core.Logic.{_≢_, inl, inr}
@@ -8,7 +8,7 @@ use lib.ListN.{length, drop, length-take, length-drop}
 use native.Mathlib.Omega.{arith}
 use native.Mathlib.Decide.{decLt}
 use Rattle.grid.specs.Channel.{times, isOpen, openAt, density}
-use Rattle.grid.specs.Grid.{Linked, here, up, across, back, join, Ends, low, verticalOf, horizontalOf, Solution, columnOf}
+use Rattle.grid.specs.Grid.{Linked, here, up, across, back, join, Ends, low, verticalOf, horizontalOf, Wiring, columnOf}
 use Rattle.grid.proofs.Counting.{holds-times, at-below, pigeonhole}
 use Rattle.grid.proofs.Rows.{HasPin, left-at, right-at, open-sides, density-most}
 
@@ -25,7 +25,7 @@ stays c none (join l m) = let r = stays c none l in let s = stays c none m in (�
 abbrev pub leaving : (D : List ℕ) (t x : ℕ) → List ℕ
 leaving D t x = drop (t + 1) (columnOf D t x)
 
-module _ (top bottom : List ℕ) (w t : ℕ) (D : List ℕ) (same : length top ≡ length bottom) (S : Solution top bottom w t D) where
+module _ (top bottom : List ℕ) (w t : ℕ) (D : List ℕ) (same : length top ≡ length bottom) (S : Wiring top bottom w t D) where
   -- a pin's edge ends in its column
   pin-end : (N x : ℕ) → N ≢ 0 → HasPin top bottom N x → (y : ℕ) × Ends (verticalOf D t) (horizontalOf D t) N x x y
   pin-end N x n (inl e) = (t, low (S .topPins x (omega (arith, S .covers, at-below top x N n e)) ∙ e))
@@ -52,6 +52,6 @@ module _ (top bottom : List ℕ) (w t : ℕ) (D : List ℕ) (same : length top �
       let s : length (leaving D t c) ≤ t = simp (length-drop, length-take) (omega arith) in
       omega (arith, pigeonhole (isOpen top bottom (suc c)) (leaving D t c) 256 (λ v o. crosses c (suc v) (omega arith) o))
 
-  -- NO SOLUTION HAS FEWER TRACKS THAN THE DENSITY
+  -- NO WIRING HAS FEWER TRACKS THAN THE DENSITY, and so no solution
   pub density-le : density top bottom ≤ t
   density-le = density-most top bottom t open-le

@@ -9,23 +9,24 @@ use native.Mathlib.Omega.{arith}
 use native.Mathlib.Nat.{mul-le-mul-right, div-add-mod', mod-lt}
 use native.Mathlib.Decide.{decLt, ℕ-discrete}
 use Rattle.grid.specs.Channel.{left, pins}
-use Rattle.grid.specs.Grid.{Solution, verticalOf, horizontalOf, columnOf}
+use Rattle.grid.specs.Grid.{Wiring, Solution, NoLooseEnd, verticalOf, horizontalOf, columnOf, comesTo, edgesAmong, edgesAt}
 use Rattle.grid.proofs.Counting.{zeros}
 use Rattle.grid.proofs.Rows.{HasPin, left-suc, left-right, pin-left}
-use Rattle.grid.proofs.Drawings.Step.{Local, Row, comes, foot, head, goes, Has, Swept, prev, one-piece}
+use Rattle.grid.proofs.Drawings.Step.{Local, Row, comes, foot, head, goes, Has, Swept, one-piece}
 use Rattle.grid.proofs.Drawings.Flat.{vert-col, horz-col, vert-past, horz-past}
 
 -- net N has a pin in the column, P above or Q below, or a strand that comes in
 abbrev pub Source : (P Q : ℕ) (L : ℕ → ℕ) (N : ℕ) → Type 0
 Source P Q L N = ((P ≡ N) ⊎ (Q ≡ N)) ⊎ ((j : ℕ) × (L j ≡ N))
 
--- ONE COLUMN FITS: its pins are P above and Q below; L comes in, U are its vertical entries, R leaves. Each net's edges meet the local condition, and a
--- net with an entry has a source
+-- ONE COLUMN FITS: its pins are P above and Q below; L comes in, U are its vertical entries, R leaves. Each net's edges meet the local condition, a net
+-- with an entry has a source, and no net has a single edge at a point of a track
 pub record Column (t P Q : ℕ) (L U R : ℕ → ℕ) : Type 0 where
   pub bottomPin : U 0 ≡ Q
   pub topPin : U t ≡ P
   pub local : (N : ℕ) → N ≢ 0 → Local L U R N
   pub source : (N : ℕ) → N ≢ 0 → (y : ℕ) → (U y ≡ N) ⊎ (R y ≡ N) → Source P Q L N
+  pub tidy : (N : ℕ) → N ≢ 0 → (j : ℕ) → j < t → edgesAmong (U j) (U (suc j)) (L j) (R j) N ≢ 1
 
 -- A COLUMN BEHIND k OTHERS
 
@@ -47,9 +48,9 @@ module _ (t k : ℕ) (D U R : List ℕ) (size : length D ≡ k * (2 * t + 1)) (h
   unfolding horizontalOf
   h-old x p = fun-ext (λ y. ap (λ (c : List ℕ). getD (drop (t + 1) c) y 0) (column-old x p))
 
-  prev-old : (x : ℕ) → x ≤ k → prev (horizontalOf (D ++ (U ++ R)) t) x ≡ prev (horizontalOf D t) x
-  prev-old zero p = refl
-  prev-old (suc x) p = h-old x p
+  comes-old : (x : ℕ) → x ≤ k → comesTo (horizontalOf (D ++ (U ++ R)) t) x ≡ comesTo (horizontalOf D t) x
+  comes-old zero p = refl
+  comes-old (suc x) p = h-old x p
 
   -- the new one has the entries that were put there
   column-new : columnOf (D ++ (U ++ R)) t k ≡ U ++ R
@@ -63,14 +64,14 @@ module _ (t k : ℕ) (D U R : List ℕ) (size : length D ≡ k * (2 * t + 1)) (h
 
   -- what holds of the new column and held of the others holds of all
   each : (P : ℕ → (ℕ → ℕ) → (ℕ → ℕ) → (ℕ → ℕ) → Type 0)
-      → ((x : ℕ) → x < k → P x (prev (horizontalOf D t) x) (verticalOf D t x) (horizontalOf D t x))
-      → P k (prev (horizontalOf D t) k) (λ y. getD U y 0) (λ j. getD R j 0)
-      → (x : ℕ) → x < suc k → P x (prev (horizontalOf (D ++ (U ++ R)) t) x) (verticalOf (D ++ (U ++ R)) t x) (horizontalOf (D ++ (U ++ R)) t x)
+      → ((x : ℕ) → x < k → P x (comesTo (horizontalOf D t) x) (verticalOf D t x) (horizontalOf D t x))
+      → P k (comesTo (horizontalOf D t) k) (λ y. getD U y 0) (λ j. getD R j 0)
+      → (x : ℕ) → x < suc k → P x (comesTo (horizontalOf (D ++ (U ++ R)) t) x) (verticalOf (D ++ (U ++ R)) t x) (horizontalOf (D ++ (U ++ R)) t x)
   each P old new x p = go (ℕ-discrete x k)
     where
-      go : Dec (x ≡ k) → P x (prev (horizontalOf (D ++ (U ++ R)) t) x) (verticalOf (D ++ (U ++ R)) t x) (horizontalOf (D ++ (U ++ R)) t x)
-      go (yes e) = rw e (subst₃ (P k) (sym (prev-old k (omega arith))) (sym v-new) (sym h-new) new)
-      go (no e) = let q : x < k = omega arith in subst₃ (P x) (sym (prev-old x (omega arith))) (sym (v-old x q)) (sym (h-old x q)) (old x q)
+      go : Dec (x ≡ k) → P x (comesTo (horizontalOf (D ++ (U ++ R)) t) x) (verticalOf (D ++ (U ++ R)) t x) (horizontalOf (D ++ (U ++ R)) t x)
+      go (yes e) = rw e (subst₃ (P k) (sym (comes-old k (omega arith))) (sym v-new) (sym h-new) new)
+      go (no e) = let q : x < k = omega arith in subst₃ (P x) (sym (comes-old x (omega arith))) (sym (v-old x q)) (sym (h-old x q)) (old x q)
 
 -- THE COLUMNS OF A DRAWING, ONE BY ONE
 
@@ -82,9 +83,9 @@ module _ (top bottom : List ℕ) (t : ℕ) where
   -- D is k columns that fit; l is the gap after them
   pub record Drawn (k : ℕ) (D l : List ℕ) : Type 0 where
     pub size : length D ≡ k * (2 * t + 1)
-    pub gap : (j : ℕ) → prev (horizontalOf D t) k j ≡ getD l j 0
-    pub column : (x : ℕ) → x < k → Column t (getD top x 0) (getD bottom x 0) (prev (horizontalOf D t) x) (verticalOf D t x) (horizontalOf D t x)
-    pub lives : (x : ℕ) → x < k → Lives x (prev (horizontalOf D t) x)
+    pub gap : (j : ℕ) → comesTo (horizontalOf D t) k j ≡ getD l j 0
+    pub column : (x : ℕ) → x < k → Column t (getD top x 0) (getD bottom x 0) (comesTo (horizontalOf D t) x) (verticalOf D t x) (horizontalOf D t x)
+    pub lives : (x : ℕ) → x < k → Lives x (comesTo (horizontalOf D t) x)
 
   -- no column yet
   pub none : Drawn 0 [] (replicate t 0)
@@ -128,15 +129,15 @@ module _ (top bottom : List ℕ) (t : ℕ) where
     h-past x y p = horz-past D t x y (past x p)
 
     -- nothing comes into a column after the last
-    dry : (k j : ℕ) → w ≤ k → prev h k j ≡ 0
+    dry : (k j : ℕ) → w ≤ k → comesTo h k j ≡ 0
     dry k j p = go (ℕ-discrete w k)
       where
-        at : (k : ℕ) → w < k → prev h k j ≡ 0
+        at : (k : ℕ) → w < k → comesTo h k j ≡ 0
         at zero q = absurd (omega arith)
         at (suc k) q = h-past k j (omega arith)
 
-        go : Dec (w ≡ k) → prev h k j ≡ 0
-        go (yes e) = subst (λ (k : ℕ). prev h k j ≡ 0) e (d .gap j ∙ over j)
+        go : Dec (w ≡ k) → comesTo h k j ≡ 0
+        go (yes e) = subst (λ (k : ℕ). comesTo h k j ≡ 0) e (d .gap j ∙ over j)
         go (no e) = at k (omega arith)
 
     module _ (N : ℕ) (n : N ≢ 0) where
@@ -157,34 +158,34 @@ module _ (top bottom : List ℕ) (t : ℕ) where
           go (no p) = absurd (n (⊎-elim (λ e. sym e ∙ v-past k y (omega arith)) (λ e. sym e ∙ h-past k y (omega arith)) o))
 
       -- so N has a source there
-      source : (k : ℕ) → Has v h N k → Source (getD top k 0) (getD bottom k 0) (prev h k) N
+      source : (k : ℕ) → Has v h N k → Source (getD top k 0) (getD bottom k 0) (comesTo h k) N
       source k o = d .column k (stops k o) .source N n (o .0) (o .1)
 
       -- and is known after it, if strands are known
-      known : (k : ℕ) → ((j : ℕ) → prev h k j ≡ N → 0 < c k) → Has v h N k → 0 < c (suc k)
+      known : (k : ℕ) → ((j : ℕ) → comesTo h k j ≡ N → 0 < c k) → Has v h N k → 0 < c (suc k)
       known k before o = ⊎-elim (pin-left top bottom N k n) (λ s. omega (arith, before (s .0) (s .1), grows k)) (source k o)
 
       -- they are
-      in-gap : (k j : ℕ) → prev h k j ≡ N → 0 < c k
+      in-gap : (k j : ℕ) → comesTo h k j ≡ N → 0 < c k
       in-gap zero j e = absurd (n (sym e))
       in-gap (suc k) j e = known k (in-gap k) (j, inr e)
 
       -- where N was known before, a strand comes in
-      meets : (k : ℕ) → 0 < c k → Has v h N k → (j : ℕ) × (prev h k j ≡ N)
+      meets : (k : ℕ) → 0 < c k → Has v h N k → (j : ℕ) × (comesTo h k j ≡ N)
       meets k p o = ⊎-elim (d .lives k (stops k o) N n p) (λ s. s) (source k o)
 
       -- N has no row in a column after the last
-      empty : (k r : ℕ) → w ≤ k → Row (prev h k) (v k) (h k) N r → ⊥
+      empty : (k r : ℕ) → w ≤ k → Row (comesTo h k) (v k) (h k) N r → ⊥
       empty k r p (comes {j} e) = n (sym e ∙ dry k j p)
       empty k r p (foot {y} e) = n (sym e ∙ v-past k y p)
       empty k r p (head {y} e) = n (sym e ∙ v-past k y p)
       empty k r p (goes {j} e) = n (sym e ∙ h-past k j p)
 
       -- so every column meets the local condition
-      local : (k : ℕ) → Local (prev h k) (v k) (h k) N
+      local : (k : ℕ) → Local (comesTo h k) (v k) (h k) N
       local k = go (decLt k w)
         where
-          go : Dec (k < w) → Local (prev h k) (v k) (h k) N
+          go : Dec (k < w) → Local (comesTo h k) (v k) (h k) N
           go (yes p) = d .column k p .local N n
           go (no p) = record { pair = λ {r} {s} a b. absurd (empty k r (omega arith) a) }
 
@@ -227,15 +228,24 @@ module _ (top bottom : List ℕ) (t : ℕ) where
             let k = i / (2 * t + 1) in
             inr (omega (arith, swept (getD D i 0) n .starts k at, left-right top bottom (getD D i 0) (suc k)))
 
-    -- THE DRAWING IS A SOLUTION
-    pub solution : length top ≤ w → Solution top bottom w t D
-    solution covers =
+    -- the drawing is one of document 01's
+    wiring : length top ≤ w → Wiring top bottom w t D
+    wiring covers =
         record {
           size = d .size;
           covers = covers;
           nets = λ i p. net i;
           bottomPins = λ x p. d .column x p .bottomPin;
           topPins = λ x p. d .column x p .topPin;
-          last = λ x j e. subst (λ (k : ℕ). prev h k j ≡ 0) (sym e) (dry w j (omega arith));
+          last = λ x j e. subst (λ (k : ℕ). comesTo h k j ≡ 0) (sym e) (dry w j (omega arith));
           pieces = λ N n. one-piece v h N (c N n) w n (swept N n);
         }
+
+    -- no end is loose
+    ends : (N : ℕ) → N ≢ 0 → NoLooseEnd v h w t N
+    unfolding edgesAt
+    ends N n x j p q = d .column x p .tidy N n j q
+
+    -- THE DRAWING IS A SOLUTION
+    pub solution : length top ≤ w → Solution top bottom w t D
+    solution covers = record { wiring = wiring covers; ends = ends }

@@ -1,4 +1,4 @@
--- Columns of five segments. Where each net runs straight, is carried on or ends in one run, the column fits. Assumes nothing.
+-- Columns of five segments. A net that runs straight, is carried on or ends in one run meets the local condition. Assumes nothing.
 use Prim.Native.Nat.{ℕ, suc, _+_, _≤_, _<_, zero-le}
 use mathlib.Core.Path.{_≡_, refl, sym, _∙_}
 use mathlib.Core.Logic.{_⊎_, inl, inr, _≢_, ⊎-elim}
@@ -14,8 +14,6 @@ use Rattle.grid.specs.Segments.{segment}
 use Rattle.grid.proofs.Tests.{Below, below, above, belowBy, lt-ltb, le-ltb}
 use Rattle.grid.proofs.Drawings.Step.{Local, Leaves}
 use Rattle.grid.proofs.Drawings.Local.{leaves-on, carry, one-run}
-use Rattle.grid.proofs.Drawings.Columns.{Column}
-pub use Rattle.grid.proofs.Drawings.Columns.{Source}
 
 -- THE SEGMENTS
 
@@ -50,7 +48,7 @@ pub record EachRun (t : ℕ) (s : Segments) (N : ℕ) (C : ℕ → ℕ → Type 
   pub onTop : s .top ≡ N → C (s .high) (suc t)
 
 -- and so of any
-of-run : {t : ℕ} {s : Segments} {N lo hi : ℕ} {C : ℕ → ℕ → Type 0} → EachRun t s N C → Run t s N lo hi → C lo hi
+pub of-run : {t : ℕ} {s : Segments} {N lo hi : ℕ} {C : ℕ → ℕ → Type 0} → EachRun t s N C → Run t s N lo hi → C lo hi
 of-run c (bottomRun e) = c .onBottom e
 of-run c (middleRun e) = c .onMiddle e
 of-run c (topRun e) = c .onTop e
@@ -62,6 +60,10 @@ InRun t s N y = (lo : ℕ) × (hi : ℕ) × Run t s N lo hi × (lo ≤ y) × (y 
 -- row r is at a run of N
 abbrev pub AtRun : (t : ℕ) (s : Segments) (N r : ℕ) → Type 0
 AtRun t s N r = (lo : ℕ) × (hi : ℕ) × Run t s N lo hi × (lo < hi) × (lo ≤ r) × (r ≤ hi)
+
+-- each strand of N on the side A of the column runs straight on to the side B, or meets a run
+abbrev pub GoOn : (t : ℕ) (s : Segments) (A B : ℕ → ℕ) (N : ℕ) → Type 0
+GoOn t s A B N = (j : ℕ) → A j ≡ N → (B j ≡ N) ⊎ AtRun t s N (suc j)
 
 -- an entry in a run of N is N
 pub segment-run : {t : ℕ} {s : Segments} {N lo hi : ℕ} → Ordered t s → Run t s N lo hi → (y : ℕ) → lo ≤ y → y < hi → segment s y ≡ N
@@ -94,13 +96,14 @@ segment-in t s N y n h e =
 
 -- HOW A NET FARES IN A COLUMN: L comes in, R leaves
 
--- it is carried on: each of its runs has an exit, and each of its strands runs straight or meets a run
+-- it is carried on: each of its runs has an exit, and each of its strands goes on
 pub record Carried (t : ℕ) (s : Segments) (L R : ℕ → ℕ) (N : ℕ) : Type 0 where
   pub exits : EachRun t s N (λ lo hi. lo < hi → (j : ℕ) × (R j ≡ N) × (lo ≤ suc j) × (suc j ≤ hi))
-  pub ins : (j : ℕ) → L j ≡ N → (R j ≡ N) ⊎ AtRun t s N (suc j)
+  pub ins : GoOn t s L R N
 
 -- it ends in one run, from row lo to row hi, of one segment or of several that touch: its segments are the entries between, its strands lie between
 pub record Ended (t : ℕ) (s : Segments) (L R : ℕ → ℕ) (N lo hi : ℕ) : Type 0 where
+  pub some : lo < hi
   pub covers : (y : ℕ) → lo ≤ y → y < hi → InRun t s N y
   pub runs : EachRun t s N (λ a b. a < b → (lo ≤ a) × (b ≤ hi))
   pub ins : (j : ℕ) → L j ≡ N → (lo ≤ suc j) × (suc j ≤ hi)
@@ -112,11 +115,21 @@ pub data Fares (t : ℕ) (s : Segments) (L R : ℕ → ℕ) (N : ℕ) : Type 0 w
   carried : Carried t s L R N → Fares t s L R N
   ended : {lo hi : ℕ} → Ended t s L R N lo hi → Fares t s L R N
 
+-- so its strands that come in go on
+pub strand-in : {t : ℕ} {s : Segments} {L R : ℕ → ℕ} {N : ℕ} → Fares t s L R N → GoOn t s L R N
+strand-in (straight none on) j e = inl (on j e)
+strand-in (carried c) j e = c .ins j e
+strand-in {t} {s} {N} (ended {lo} {hi} c) j e = inr (go (decLt (suc j) hi))
+  where
+    go : Dec (suc j < hi) → AtRun t s N (suc j)
+    go (yes p) = let (a, b, run, l, h) = c .covers (suc j) (c .ins j e .0) p in (a, b, run, omega arith, l, omega arith)
+    go (no p) = let (a, b, run, l, h) = c .covers j (omega (arith, c .some, c .ins j e)) (omega (arith, c .ins j e)) in (a, b, run, omega arith, omega arith, h)
+
 -- THE LOCAL CONDITION HOLDS FOR A NET THAT FARES SO
 
 module _ {t : ℕ} {s : Segments} {U : ℕ → ℕ} (o : Ordered t s) (u : Draws t s U) where
   -- the entries of a run
-  run-all : {N lo hi : ℕ} → Run t s N lo hi → (y : ℕ) → lo ≤ y → y < hi → U y ≡ N
+  pub run-all : {N lo hi : ℕ} → Run t s N lo hi → (y : ℕ) → lo ≤ y → y < hi → U y ≡ N
   run-all r y p q = u .inside y (omega (arith, run-high r)) ∙ segment-run o r y p q
     where
       run-high : {N lo hi : ℕ} → Run t s N lo hi → hi ≤ suc t
@@ -125,7 +138,7 @@ module _ {t : ℕ} {s : Segments} {U : ℕ → ℕ} (o : Ordered t s) (u : Draws
       run-high (topRun e) = omega arith
 
   -- an entry lies in a run
-  in-run : (N y : ℕ) → N ≢ 0 → U y ≡ N → InRun t s N y
+  pub in-run : (N y : ℕ) → N ≢ 0 → U y ≡ N → InRun t s N y
   in-run N y n e = go (decLt t y)
     where
       go : Dec (t < y) → InRun t s N y
@@ -155,7 +168,7 @@ module _ {t : ℕ} {s : Segments} {U : ℕ → ℕ} (o : Ordered t s) (u : Draws
       (c .outs)
 
   -- each of the three ways
-  fares-local : {L R : ℕ → ℕ} {N : ℕ} → N ≢ 0 → Fares t s L R N → Local L U R N
+  pub fares-local : {L R : ℕ → ℕ} {N : ℕ} → N ≢ 0 → Fares t s L R N → Local L U R N
   fares-local {L} {R} {N} n (straight none on) =
       carry (λ j e. leaves-on j (on j e)) (λ y e. let (lo, hi, run, a, b) = in-run N y n e in absurd (omega (arith, of-run none run)))
   fares-local n (carried c) = carried-local n c
@@ -164,15 +177,17 @@ module _ {t : ℕ} {s : Segments} {U : ℕ → ℕ} (o : Ordered t s) (u : Draws
 -- TWO WAYS TO END
 
 -- in one of its segments, where the others lie within it or are empty
-pub alone : {t : ℕ} {s : Segments} {L R : ℕ → ℕ} {N lo hi : ℕ} → Run t s N lo hi
+pub alone : {t : ℕ} {s : Segments} {L R : ℕ → ℕ} {N lo hi : ℕ} → Run t s N lo hi → lo < hi
     → EachRun t s N (λ a b. a < b → (lo ≤ a) × (b ≤ hi))
     → ((j : ℕ) → L j ≡ N → (lo ≤ suc j) × (suc j ≤ hi))
     → ((j : ℕ) → R j ≡ N → (lo ≤ suc j) × (suc j ≤ hi))
     → Fares t s L R N
-alone {t} {s} {L} {R} {N} {lo} {hi} r others ins outs = ended record { covers = λ y p q. (lo, hi, r, p, q); runs = others; ins = ins; outs = outs }
+alone {t} {s} {L} {R} {N} {lo} {hi} r some others ins outs =
+    ended record { some = some; covers = λ y p q. (lo, hi, r, p, q); runs = others; ins = ins; outs = outs }
 
 -- in the middle segment and its pins', where the segments touch
-module _ {t : ℕ} {s : Segments} {L R : ℕ → ℕ} {N : ℕ} (o : Ordered t s) (m : s .middle ≡ N) (foot : s .low ≡ s .start) (head : s .stop ≡ s .high)
+module _ {t : ℕ} {s : Segments} {L R : ℕ → ℕ} {N : ℕ} (o : Ordered t s) (m : s .middle ≡ N) (some : s .start < s .stop)
+    (foot : s .low ≡ s .start) (head : s .stop ≡ s .high)
     (ins : (j : ℕ) → L j ≡ N → (s .start ≤ suc j) × (suc j ≤ s .stop)) (outs : (j : ℕ) → R j ≡ N → (s .start ≤ suc j) × (suc j ≤ s .stop)) where
   -- the run goes to the column's end where the pin there is N's
   touching : (lo hi : ℕ) → ((lo ≡ 0) × (s .bottom ≡ N)) ⊎ ((lo ≡ s .start) × (s .bottom ≢ N))
@@ -180,6 +195,7 @@ module _ {t : ℕ} {s : Segments} {L R : ℕ → ℕ} {N : ℕ} (o : Ordered t s
       → Ended t s L R N lo hi
   touching lo hi l h =
       record {
+        some = omega (arith, spread);
         covers = λ y p q. at y p q (decLt y (s .low)) (decLt y (s .high));
         runs = record {
           onBottom = λ e p. (⊎-elim (λ d. omega arith) (λ d. absurd (d .1 e)) l, omega (arith, spread));
@@ -211,31 +227,3 @@ module _ {t : ℕ} {s : Segments} {L R : ℕ → ℕ} {N : ℕ} (o : Ordered t s
           go : Dec (net ≡ N) → (x : ℕ) × (((x ≡ far) × (net ≡ N)) ⊎ ((x ≡ near) × (net ≢ N)))
           go (yes e) = (far, inl (refl, e))
           go (no e) = (near, inr (refl, e))
-
--- A COLUMN OF FIVE SEGMENTS FITS
-
--- what a sweep shows of a column with the pins P above and Q below
-pub record Fits (t P Q : ℕ) (s : Segments) (L R : ℕ → ℕ) : Type 0 where
-  pub order : Ordered t s
-  pub bottomIs : s .bottom ≡ Q
-  pub topIs : s .top ≡ P
-  pub bottomEnd : segment s 0 ≡ Q
-  pub topEnd : segment s t ≡ P
-  pub middleFrom : s .middle ≢ 0 → Source P Q L (s .middle)
-  pub outFrom : (j N : ℕ) → N ≢ 0 → R j ≡ N → Source P Q L N
-  pub fares : (N : ℕ) → N ≢ 0 → Fares t s L R N
-
--- then its column fits
-pub segments-column : {t P Q : ℕ} {s : Segments} {L U R : ℕ → ℕ} → Draws t s U → Fits t P Q s L R → Column t P Q L U R
-segments-column {t} {P} {Q} {s} {L} {U} {R} u f =
-    record {
-      bottomPin = u .inside 0 zero-le ∙ f .bottomEnd;
-      topPin = u .inside t (omega arith) ∙ f .topEnd;
-      local = λ N n. fares-local (f .order) u n (f .fares N n);
-      source = λ N n y e. ⊎-elim (λ e. run N n (in-run (f .order) u N y n e .2)) (f .outFrom y N n) e;
-    }
-  where
-    run : {lo hi : ℕ} (N : ℕ) → N ≢ 0 → Run t s N lo hi → Source P Q L N
-    run N n (bottomRun e) = inl (inr (sym (f .bottomIs) ∙ e))
-    run N n (middleRun e) = rw e at (f .middleFrom (λ z. n (sym e ∙ z)))
-    run N n (topRun e) = inl (inl (sym (f .topIs) ∙ e))

@@ -5,7 +5,7 @@ use mathlib.Core.Logic.{_≢_, _⊎_, inl, inr, ⊎-elim}
 use native.Mathlib.Omega.{arith}
 use native.Mathlib.Decide.{decLt, decLe, ℕ-discrete}
 use native.Mathlib.Nat.{add-zero, add-suc}
-use Rattle.grid.specs.Grid.{Linked, here, up, across, back, join, Ends, low, high, near, far, OnePiece}
+use Rattle.grid.specs.Grid.{Linked, here, up, across, back, join, Ends, low, high, near, far, OnePiece, comesTo}
 
 -- A COLUMN BY ITSELF: L are the entries that come in, U the vertical ones, R those that leave
 
@@ -51,11 +51,6 @@ joined-linked {v} {h} {N} {x} {r} {s} all = go (decLe r s)
 
 -- A DRAWING: v are its vertical entries, h its horizontal ones, by column
 
--- the entries that come into column k
-abbrev pub prev : (ℕ → ℕ → ℕ) → ℕ → ℕ → ℕ
-prev h zero j = 0
-prev h (suc k) j = h k j
-
 module _ (v h : ℕ → ℕ → ℕ) (N : ℕ) where
   -- an edge of N in the columns before k ends at the point x, y
   abbrev pub Before : ℕ → ℕ → ℕ → Type 0
@@ -63,11 +58,11 @@ module _ (v h : ℕ → ℕ → ℕ) (N : ℕ) where
 
   -- the point is linked to a strand that comes into column k
   abbrev pub Strand : ℕ → ℕ → ℕ → Type 0
-  Strand k x y = (j : ℕ) × (prev h k j ≡ N) × Linked v h N x y k (suc j)
+  Strand k x y = (j : ℕ) × (comesTo h k j ≡ N) × Linked v h N x y k (suc j)
 
   -- the point is linked to a row of N in column k
   abbrev At : ℕ → ℕ → ℕ → Type 0
-  At k x y = (r : ℕ) × Row (prev h k) (v k) (h k) N r × Linked v h N x y k r
+  At k x y = (r : ℕ) × Row (comesTo h k) (v k) (h k) N r × Linked v h N x y k r
 
   -- two points are linked, or each is linked to a strand that comes into column k
   abbrev pub Paired : ℕ → ℕ → ℕ → ℕ → ℕ → Type 0
@@ -79,7 +74,7 @@ module _ (v h : ℕ → ℕ → ℕ) (N : ℕ) where
 
   -- N does not start anew: where it has points before k and an edge in column k, a strand comes in
   pub record Met (k : ℕ) : Type 0 where
-    pub met : {x y x′ y′ : ℕ} → Before k x y → Ends v h N k x′ y′ → (j : ℕ) × (prev h k j ≡ N)
+    pub met : {x y x′ y′ : ℕ} → Before k x y → Ends v h N k x′ y′ → (j : ℕ) × (comesTo h k j ≡ N)
 
   -- an edge's end in column k is at a row
   ends-at : {k x y : ℕ} → Ends v h N k x y → At k x y
@@ -97,7 +92,7 @@ module _ (v h : ℕ → ℕ → ℕ) (N : ℕ) where
   leave l (j, e, q) = (j, e, join l (join (joined-linked q) (across e)))
 
   -- the local condition on two such points
-  at-pair : {k x y x′ y′ : ℕ} → Local (prev h k) (v k) (h k) N → At k x y → At k x′ y′ → Paired (suc k) x y x′ y′
+  at-pair : {k x y x′ y′ : ℕ} → Local (comesTo h k) (v k) (h k) N → At k x y → At k x′ y′ → Paired (suc k) x y x′ y′
   at-pair c (r, a, l) (r′, a′, l′) =
       ⊎-elim (λ q. inl (join l (join (joined-linked q) (back l′)))) (λ q. inr (leave l (q .0), leave l′ (q .1))) (c .pair a a′)
 
@@ -111,16 +106,16 @@ module _ (v h : ℕ → ℕ → ℕ) (N : ℕ) where
 
   module _ (n : N ≢ 0) where
     -- a strand ends an edge of the column before
-    strand-before : (k j : ℕ) → prev h k j ≡ N → Before k k (suc j)
+    strand-before : (k j : ℕ) → comesTo h k j ≡ N → Before k k (suc j)
     strand-before zero j e = absurd (n (sym e))
     strand-before (suc k) j e = (k, omega arith, far e)
 
     -- where a strand of N comes in, each point before is linked to one
-    old-strand : {k x y : ℕ} → Good k → (j : ℕ) × (prev h k j ≡ N) → Before k x y → Strand k x y
+    old-strand : {k x y : ℕ} → Good k → (j : ℕ) × (comesTo h k j ≡ N) → Before k x y → Strand k x y
     old-strand {k} g (j, e) b = ⊎-elim (λ l. (j, e, l)) (λ q. q .0) (g .pair b (strand-before k j e))
 
     -- THE STEP
-    pub step : {k : ℕ} → Local (prev h k) (v k) (h k) N → Met k → Good k → Good (suc k)
+    pub step : {k : ℕ} → Local (comesTo h k) (v k) (h k) N → Met k → Good k → Good (suc k)
     step {k} c m g = record { pair = λ b b′. go (age b) (age b′) }
       where
         old : {x y x′ y′ : ℕ} → Before k x y → Ends v h N k x′ y′ → At k x y
@@ -133,7 +128,7 @@ module _ (v h : ℕ → ℕ → ℕ) (N : ℕ) where
         go (inr e) (inr e′) = at-pair c (ends-at e) (ends-at e′)
 
     -- so it holds after every column
-    good : ((k : ℕ) → Local (prev h k) (v k) (h k) N) → ((k : ℕ) → Met k) → (k : ℕ) → Good k
+    good : ((k : ℕ) → Local (comesTo h k) (v k) (h k) N) → ((k : ℕ) → Met k) → (k : ℕ) → Good k
     good c m zero = record { pair = λ b b′. absurd (omega (arith, b .1)) }
     good c m (suc k) = step (c k) (m k) (good c m k)
 
@@ -153,10 +148,10 @@ module _ (v h : ℕ → ℕ → ℕ) (N : ℕ) where
   pub record Swept (c : ℕ → ℕ) (w : ℕ) : Type 0 where
     pub grows : (k : ℕ) → c k ≤ c (suc k)
     pub starts : (k : ℕ) → Has k → 0 < c (suc k)
-    pub meets : (k : ℕ) → 0 < c k → Has k → (j : ℕ) × (prev h k j ≡ N)
+    pub meets : (k : ℕ) → 0 < c k → Has k → (j : ℕ) × (comesTo h k j ≡ N)
     pub stops : (k : ℕ) → Has k → k < w
-    pub closes : (j : ℕ) → prev h w j ≢ N
-    pub local : (k : ℕ) → Local (prev h k) (v k) (h k) N
+    pub closes : (j : ℕ) → comesTo h w j ≢ N
+    pub local : (k : ℕ) → Local (comesTo h k) (v k) (h k) N
 
   -- what grows from each column to the next grows over several
   grown : (c : ℕ → ℕ) → ((k : ℕ) → c k ≤ c (suc k)) → (i k : ℕ) → i ≤ k → c i ≤ c k
