@@ -87,7 +87,7 @@ module _ (top bottom : List ℕ) where
         go (no n) (no l) = omega arith
         go (no n) (yes l) =
             ⊎-elim (λ (z : v ≡ 0). absurd (n z)) (λ (p : 0 < pins top bottom v). absurd (omega (arith, rows-fit top bottom accepted .small v l)))
-            (solved top bottom accepted .nets i (at-below (layout top bottom) i v n refl))
+            (solved top bottom accepted .wiring .nets i (at-below (layout top bottom) i v n refl))
 
     -- routing draws
     drawn-by : (lent : ℕ) → 32385 ≡ lent → refused top bottom 64 lent ≡ 0

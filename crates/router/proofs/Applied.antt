@@ -64,7 +64,7 @@ module _ (top bottom : List ℕ) (ok : rowsRefused top bottom 256 ≡ 0) where
 
   -- its length is "w × (2t + 1) entries"
   pub layout-length : length (layout top bottom) ≡ width top bottom * (2 * tracks top bottom + 1)
-  layout-length = solved .size
+  layout-length = solved .wiring .size
 
   -- the width is n at least
   pub width-least : length top ≤ width top bottom

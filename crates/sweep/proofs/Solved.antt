@@ -27,7 +27,7 @@ module _ (t : ℕ) (top bottom : List ℕ) (fit : RowsFit top bottom) (enough : 
 
   -- its length is "w × (2t + 1) entries"
   pub layout-length : length (layout t top bottom) ≡ width t top bottom * (2 * t + 1)
-  layout-length = solved .size
+  layout-length = solved .wiring .size
 
   -- THE WIDTH: at most t/2 columns are added, so the slice length that refusal 8 calls for is enough
   pub width-most : width t top bottom ≤ length top + t / 2

@@ -19,11 +19,11 @@ use Rattle.sweep.specs.Tracks.{after}
 use Rattle.sweep.specs.ManyPin.{direct, topMoves, bottomMoves, topJoins, bottomJoins}
 use Rattle.sweep.proofs.Tracks.Strands.{Strand, strand-at, strand-times, tracks-differ}
 use Rattle.sweep.proofs.Tracks.After.{gives, Distinct, one-track, two-tracks, one-leaves, two-leaves, three-leaves, runs-on, gift, gift-le, gift-other}
-use Rattle.sweep.proofs.Columns.Sound.{Grant, Out, out-at, grant-none, grant-free, grant-old, grant-unless, pinNet}
+use Rattle.sweep.proofs.Columns.Sound.{Grant, outward, inward, out-at, grant-none, grant-free, grant-old, grant-unless, pinNet}
 use Rattle.sweep.specs.Working.{nobody, topNet, bottomNet}
 use Rattle.sweep.proofs.Gaps.Pins.{Reaches}
 use Rattle.sweep.proofs.Actions.Good.{Good, BothOn, pick-diff, other-track, other-gift, top-run, bottom-run, pin-wires-sound}
-use Rattle.sweep.proofs.Actions.Good.{bottom-end, none-ends, one-leaves-on}
+use Rattle.sweep.proofs.Actions.Good.{bottom-end, none-ends, one-leaves-on, on-bottom, on-top, one-given}
 
 -- net N leaves on the free track y, gives its strand z away and keeps its other strand o where it has not one alone: no track is given twice
 moves-apart : {tr : List ℕ} {w : Segments} {e k N M y z o m : ℕ} → N ≢ 0 → Strand 0 tr y → Strand N tr z → Strand N tr o → (m ≢ 1 → z ≢ o)
@@ -38,11 +38,12 @@ module _ (top bottom : List ℕ) (c t : ℕ) (tr : List ℕ) (size : length tr �
   -- DIRECT: no net ends, and one pin's net, w, takes track y at most
   direct-good : (q p y w : ℕ) → q ≤ p → p ≤ t → segment ((direct A B q p y w) .wires) 0 ≡ B .net → Grant (A .net) (B .net) 0 tr y w
       → ((v : ℕ) → gift v y w ≤ bit (eqb (A .net) v) + bit (eqb (B .net) v))
-      → (B .net ≢ 0 → Out (direct A B q p y w) tr (B .net) 0 q) → (A .net ≢ 0 → Out (direct A B q p y w) tr (A .net) p (suc t))
+      → (B .net ≢ 0 → Strand (B .net) (after (direct A B q p y w) tr) q) → (A .net ≢ 0 → Strand (A .net) (after (direct A B q p y w) tr) p)
+      → ((j N : ℕ) → y ≡ suc j → w ≡ N → AtRun t ((direct A B q p y w) .wires) N (suc j))
       → Good top bottom c t tr (A .net) (B .net) (direct A B q p y w)
-  direct-good q p y w a b e g few o1 o2 = (
-    pin-wires-sound a b e (one-track (direct A B q p y w) refl refl) g grant-none grant-none (pinNet (nobody refl)) (nobody refl) (λ n m k. o1 n) (λ n m k. o2 n)
-        (λ n. absurd (n refl)) (λ n. absurd (n refl)),
+  direct-good q p y w a b e g few o1 o2 at = (
+    pin-wires-sound a b e (one-track (direct A B q p y w) refl refl) g grant-none grant-none (pinNet (nobody refl)) (nobody refl)
+        (λ n. outward (o1 n)) (λ n. outward (o2 n)) (one-given tr (direct A B q p y w) refl refl at) (λ n. absurd (n refl)) (λ n. absurd (n refl)),
     none-ends top bottom c t tr (direct A B q p y w) pinsOn (λ v n m. omega (arith, few v)) refl refl,
   )
 
@@ -60,7 +61,8 @@ module _ (top bottom : List ℕ) (c t : ℕ) (tr : List ℕ) (size : length tr �
       direct-good 0 (A .high) 0 0 zero-le (omega (arith, a .highIs)) (segment-none order 0 zero-le (omega (arith, a .highIs)) (inr zero-le) ∙ sym z) grant-none
       (λ v. zero-le)
       (λ n. absurd (n z))
-      (λ n. (A .high, stays 0 (A .high) 0 0 n (a .highIs) (omega (arith, a .highIs)), omega arith, omega (arith, a .highIs)))
+      (λ n. stays 0 (A .high) 0 0 n (a .highIs) (omega (arith, a .highIs)))
+      (λ j N e f. absurd (omega arith))
     where
       order : Ordered t ((direct A B 0 (A .high) 0 0) .wires)
       order = omega (arith, a .highIs)
@@ -70,16 +72,18 @@ module _ (top bottom : List ℕ) (c t : ℕ) (tr : List ℕ) (size : length tr �
   bottomDirect-good b z =
       direct-good (B .low) (B .low) 0 0 (omega arith) (omega (arith, b .lowIs))
       (bottom-end t (direct A B (B .low) (B .low) 0 0) (omega (arith, b .lowIs)) (omega (arith, b .lowIs))) grant-none (λ v. zero-le)
-      (λ n. (B .low, stays (B .low) (B .low) 0 0 n (b .lowIs) (omega (arith, b .lowIs)), omega arith, omega arith))
+      (λ n. stays (B .low) (B .low) 0 0 n (b .lowIs) (omega (arith, b .lowIs)))
       (λ n. absurd (n z))
+      (λ j N e f. absurd (omega arith))
 
   -- two continuing pins that do not cross
   pub bothDirect-good : Reaches tr A → Reaches tr B → B .low < A .high → Good top bottom c t tr (A .net) (B .net) (direct A B (B .low) (A .high) 0 0)
   bothDirect-good a b p =
       direct-good (B .low) (A .high) 0 0 (omega arith) (omega (arith, a .highIs))
       (bottom-end t (direct A B (B .low) (A .high) 0 0) (omega (arith, a .highIs)) (omega (arith, b .lowIs))) grant-none (λ v. zero-le)
-      (λ n. (B .low, stays (B .low) (A .high) 0 0 n (b .lowIs) (omega (arith, b .lowIs)), omega arith, omega arith))
-      (λ n. (A .high, stays (B .low) (A .high) 0 0 n (a .highIs) (omega (arith, a .highIs)), omega arith, omega (arith, a .highIs)))
+      (λ n. stays (B .low) (A .high) 0 0 n (b .lowIs) (omega (arith, b .lowIs)))
+      (λ n. stays (B .low) (A .high) 0 0 n (a .highIs) (omega (arith, a .highIs)))
+      (λ j N e f. absurd (omega arith))
 
   -- a continuing pin, and the other pin's net on the free track
   pub topGoes-good : (f : Free) → Reaches tr A → Strand 0 tr (f .first) → f .first < A .high
@@ -88,8 +92,9 @@ module _ (top bottom : List ℕ) (c t : ℕ) (tr : List ℕ) (size : length tr �
       direct-good (f .first) (A .high) (f .first) (B .net) (omega arith) (omega (arith, a .highIs))
       (bottom-end t (direct A B (f .first) (A .high) (f .first) (B .net)) (omega (arith, a .highIs)) (omega arith)) (grant-free s (bottomNet refl))
       (λ v. omega (arith, gift-le v (f .first) (B .net)))
-      (λ n. (f .first, given-leaves (f .first) (A .high) (f .first) (B .net) s, omega arith, omega arith))
-      (λ n. (A .high, stays (f .first) (A .high) (f .first) (B .net) n (a .highIs) (omega arith), omega arith, omega (arith, a .highIs)))
+      (λ n. given-leaves (f .first) (A .high) (f .first) (B .net) s)
+      (λ n. stays (f .first) (A .high) (f .first) (B .net) n (a .highIs) (omega arith))
+      (λ j N e g. on-bottom (direct A B (f .first) (A .high) (f .first) (B .net)) g e (omega arith))
 
   -- mirrored
   pub bottomGoes-good : (f : Free) → Reaches tr B → Strand 0 tr (f .first) → B .low < f .first
@@ -98,8 +103,9 @@ module _ (top bottom : List ℕ) (c t : ℕ) (tr : List ℕ) (size : length tr �
       direct-good (B .low) (f .first) (f .first) (A .net) (omega arith) (omega arith)
       (bottom-end t (direct A B (B .low) (f .first) (f .first) (A .net)) (omega arith) (omega (arith, b .lowIs))) (grant-free s (topNet refl))
       (λ v. omega (arith, gift-le v (f .first) (A .net)))
-      (λ n. (B .low, stays (B .low) (f .first) (f .first) (A .net) n (b .lowIs) (omega arith), omega arith, omega arith))
-      (λ n. (f .first, given-leaves (B .low) (f .first) (f .first) (A .net) s, omega arith, omega arith))
+      (λ n. stays (B .low) (f .first) (f .first) (A .net) n (b .lowIs) (omega arith))
+      (λ n. given-leaves (B .low) (f .first) (f .first) (A .net) s)
+      (λ j N e g. on-top (direct A B (B .low) (f .first) (f .first) (A .net)) g e (omega arith) (omega arith))
 
   module _ (d : B .net ≢ A .net) where
     -- A NET JOINS ITS TWO STRANDS, and leaves one of them to the other pin's net
@@ -107,9 +113,11 @@ module _ (top bottom : List ℕ) (c t : ℕ) (tr : List ℕ) (size : length tr �
     topJoins-good a m = (
       pin-wires-sound (omega arith) (omega (arith, a .lowIs)) (bottom-end t (topJoins A B) (omega (arith, a .lowIs)) (omega (arith, a .lowIs))) apart
           (grant-old (a .highIs) (topNet refl)) (grant-old (a .lowIs) (bottomNet refl)) grant-none (pinNet (topNet refl)) (nobody refl)
-          (λ n i k. (A .low, two-leaves (topJoins A B) tr apart (a .lowIs) refl, omega arith, omega arith))
-          (λ n i k. absurd (i refl))
-          (λ n. top-run t tr size (topJoins A B) (omega arith) d n (λ j e. a .span j e .0)
+          (λ n. outward (two-leaves (topJoins A B) tr apart (a .lowIs) refl))
+          (λ n. inward (inl refl) (a .lowIs))
+          (λ j N n. gives (λ e f. inr (on-top (topJoins A B) f e (a .ordered) (omega (arith, a .highIs))))
+          (λ e f. inr (on-bottom (topJoins A B) f e (omega arith))) (λ e f. absurd (omega arith)))
+          (λ n. top-run t tr size (topJoins A B) (omega arith) d (omega (arith, a .lowIs)) n (λ j e. a .span j e .0)
           (λ j. gives (λ e f. omega (arith, a .ordered)) (λ e f. absurd (d f)) (λ e f. absurd (omega arith))))
           (λ n. absurd (n refl)),
       one-leaves-on top bottom c t tr (topJoins A B) pinsOn
@@ -132,9 +140,11 @@ module _ (top bottom : List ℕ) (c t : ℕ) (tr : List ℕ) (size : length tr �
     bottomJoins-good b m = (
       pin-wires-sound (omega arith) (omega (arith, b .highIs)) (bottom-end t (bottomJoins A B) (omega (arith, b .highIs)) (omega (arith, b .highIs))) apart
           (grant-old (b .lowIs) (bottomNet refl)) (grant-old (b .highIs) (topNet refl)) grant-none (pinNet (bottomNet refl)) (nobody refl)
-          (λ n i k. absurd (i refl))
-          (λ n i k. (B .high, two-leaves (bottomJoins A B) tr apart (b .highIs) refl, omega arith, omega (arith, b .highIs)))
-          (λ n. bottom-run t tr size (bottomJoins A B) (omega arith) d n (λ j e. b .span j e .1)
+          (λ n. inward (inl refl) (b .highIs))
+          (λ n. outward (two-leaves (bottomJoins A B) tr apart (b .highIs) refl))
+          (λ j N n. gives (λ e f. inr (on-bottom (bottomJoins A B) f e (b .ordered)))
+          (λ e f. inr (on-top (bottomJoins A B) f e (omega arith) (omega (arith, b .highIs)))) (λ e f. absurd (omega arith)))
+          (λ n. bottom-run t tr size (bottomJoins A B) (omega arith) d (omega (arith, b .highIs)) n (λ j e. b .span j e .1)
           (λ j. gives (λ e f. omega (arith, b .ordered)) (λ e f. absurd (d (sym f))) (λ e f. absurd (omega arith))))
           (λ n. absurd (n refl)),
       one-leaves-on top bottom c t tr (bottomJoins A B) pinsOn
@@ -159,13 +169,15 @@ module _ (top bottom : List ℕ) (c t : ℕ) (tr : List ℕ) (size : length tr �
       pin-wires-sound (omega arith) (omega (arith, a .highIs)) (bottom-end t (topMoves A B f) (omega (arith, a .highIs)) (omega (arith, a .highIs))) apart
           (grant-free s (topNet refl)) (grant-old (a .highIs) (bottomNet refl)) (grant-unless (eqb (A .many) 1) (grant-old (a .lowIs) (topNet refl)))
           (pinNet (topNet refl)) (nobody refl)
-          (λ n m k. (A .high, two-leaves (topMoves A B f) tr apart (a .highIs) refl, omega arith, omega arith))
-          (λ n m k. absurd (m refl))
+          (λ n. outward (two-leaves (topMoves A B f) tr apart (a .highIs) refl))
+          (λ n. inward (inl refl) (a .highIs))
+          (λ j N n. gives (λ e g. inr (on-top (topMoves A B f) g e p (omega arith))) (λ e g. inr (on-bottom (topMoves A B f) g e (omega arith)))
+          (λ e g. inl (strand-at (subst (Strand (A .net) tr) (other-track (A .many) (A .low) j e .0) (a .lowIs)) ∙ g)))
           (λ n. carried record {
             exits = record {
               onBottom = λ g h. absurd (d g);
               onMiddle = λ g h. absurd (omega arith);
-              onTop = λ g h. out-at (f .first, leaves, omega arith, omega arith);
+              onTop = λ g h. out-at leaves (omega arith) (omega arith);
             };
             ins = λ j h. ins j h (eqb (A .many) 1) (sameBy (A .many) 1);
           })
@@ -214,11 +226,14 @@ module _ (top bottom : List ℕ) (c t : ℕ) (tr : List ℕ) (size : length tr �
       pin-wires-sound (omega arith) (omega (arith, b .lowIs)) (bottom-end t (bottomMoves A B f) (omega (arith, b .lowIs)) (omega (arith, b .lowIs))) apart
           (grant-free s (bottomNet refl)) (grant-old (b .lowIs) (topNet refl)) (grant-unless (eqb (B .many) 1) (grant-old (b .highIs) (bottomNet refl)))
           (pinNet (bottomNet refl)) (nobody refl)
-          (λ n m k. absurd (m refl))
-          (λ n m k. (B .low, two-leaves (bottomMoves A B f) tr apart (b .lowIs) refl, omega arith, omega (arith, b .lowIs)))
+          (λ n. inward (inl refl) (b .lowIs))
+          (λ n. outward (two-leaves (bottomMoves A B f) tr apart (b .lowIs) refl))
+          (λ j N n. gives (λ e g. inr (on-bottom (bottomMoves A B f) g e p))
+          (λ e g. inr (on-top (bottomMoves A B f) g e (omega arith) (omega (arith, b .lowIs))))
+          (λ e g. inl (strand-at (subst (Strand (B .net) tr) (other-track (B .many) (B .high) j e .0) (b .highIs)) ∙ g)))
           (λ n. carried record {
             exits = record {
-              onBottom = λ g h. out-at (f .first, leaves, omega arith, omega arith);
+              onBottom = λ g h. out-at leaves (omega arith) (omega arith);
               onMiddle = λ g h. absurd (omega arith);
               onTop = λ g h. absurd (d (sym g));
             };

@@ -1,7 +1,7 @@
 -- The actions of a column in which a pin's net ends, and the other pin's net takes its track; or both end.
 use Prim.Native.Nat.{ℕ, _<_, zero-le}
 use mathlib.Core.Path.{_≡_, refl, sym, _∙_}
-use mathlib.Core.Logic.{_≢_, ⊎-elim}
+use mathlib.Core.Logic.{inl, inr, _≢_, ⊎-elim}
 use mathlib.Core.List.{List}
 use native.Mathlib.Omega.{arith}
 use lib.Dec.{eqb}
@@ -11,10 +11,11 @@ use Rattle.sweep.specs.declared.Pin.{Pin}
 use Rattle.sweep.specs.Rules.{taken, topEnds, bottomEnds, bothJoin}
 use Rattle.sweep.proofs.Tracks.Strands.{Strand, strand-is}
 use Rattle.sweep.proofs.Tracks.After.{Gives, gives, one-track, one-leaves, gift, gift-le, gift-other}
-use Rattle.sweep.proofs.Columns.Sound.{grant-none, grant-old, grant-unless, pinNet}
+use Rattle.sweep.proofs.Columns.Sound.{outward, inward, grant-none, grant-old, grant-unless, pinNet}
 use Rattle.sweep.specs.Working.{nobody, topNet, bottomNet}
 use Rattle.sweep.proofs.Gaps.Pins.{Reaches, Off}
-use Rattle.sweep.proofs.Actions.Good.{Good, Begun, taken-some, top-run, bottom-run, pin-wires-sound, bottom-end}
+use Rattle.sweep.proofs.Actions.Good.{Good, Begun, taken-some, pick-track, on-bottom, on-top, none-given, one-given, top-run, bottom-run}
+use Rattle.sweep.proofs.Actions.Good.{pin-wires-sound, bottom-end}
 
 module _ (top bottom : List ℕ) (c t : ℕ) (tr : List ℕ) (size : length tr ≡ t) (A B : Pin) (d : B .net ≢ A .net) where
   -- THE TOP NET ENDS: it joins all strands up to its pin, and the bottom pin's net, where there is one, takes the lowest
@@ -24,9 +25,10 @@ module _ (top bottom : List ℕ) (c t : ℕ) (tr : List ℕ) (size : length tr �
     pin-wires-sound (omega arith) (omega (arith, a .lowIs)) (bottom-end t (topEnds A B) (omega (arith, a .lowIs)) (omega (arith, a .lowIs)))
         (one-track (topEnds A B) refl refl)
         (grant-unless (eqb (B .net) 0) (grant-old (a .lowIs) (bottomNet refl))) grant-none grant-none (pinNet (topNet refl)) (nobody refl)
-        (λ n m k. (A .low, given-leaves n, omega arith, omega arith))
-        (λ n m k. absurd (m refl))
-        (λ n. top-run t tr size (topEnds A B) (omega arith) d n (λ j e. a .span j e .0)
+        (λ n. outward (given-leaves n))
+        (λ n. inward (inl refl) (a .lowIs))
+        (one-given tr (topEnds A B) refl refl (λ j N e f. on-bottom (topEnds A B) f (pick-track (eqb (B .net) 0) (A .low) j e) (omega arith)))
+        (λ n. top-run t tr size (topEnds A B) (omega arith) d (omega (arith, a .lowIs)) n (λ j e. a .span j e .0)
         (λ j. gives (λ e f. absurd (d f)) (λ e f. absurd (omega arith)) (λ e f. absurd (omega arith))))
         (λ n. absurd (n refl)),
     record {
@@ -55,9 +57,11 @@ module _ (top bottom : List ℕ) (c t : ℕ) (tr : List ℕ) (size : length tr �
     pin-wires-sound (omega arith) (omega (arith, b .highIs)) (bottom-end t (bottomEnds A B) (omega (arith, b .highIs)) (omega (arith, b .highIs)))
         (one-track (bottomEnds A B) refl refl)
         (grant-unless (eqb (A .net) 0) (grant-old (b .highIs) (topNet refl))) grant-none grant-none (pinNet (bottomNet refl)) (nobody refl)
-        (λ n m k. absurd (m refl))
-        (λ n m k. (B .high, given-leaves n, omega arith, omega (arith, b .highIs)))
-        (λ n. bottom-run t tr size (bottomEnds A B) (omega arith) d n (λ j e. b .span j e .1)
+        (λ n. inward (inl refl) (b .highIs))
+        (λ n. outward (given-leaves n))
+        (one-given tr (bottomEnds A B) refl refl
+        (λ j N e f. on-top (bottomEnds A B) f (pick-track (eqb (A .net) 0) (B .high) j e) (omega arith) (omega (arith, b .highIs))))
+        (λ n. bottom-run t tr size (bottomEnds A B) (omega arith) d (omega (arith, b .highIs)) n (λ j e. b .span j e .1)
         (λ j. gives (λ e f. absurd (d (sym f))) (λ e f. absurd (omega arith)) (λ e f. absurd (omega arith))))
         (λ n. absurd (n refl)),
     record {
@@ -86,10 +90,11 @@ module _ (top bottom : List ℕ) (c t : ℕ) (tr : List ℕ) (size : length tr �
     pin-wires-sound (omega arith) (omega (arith, a .lowIs)) (bottom-end t (bothJoin A B) (omega (arith, a .lowIs)) (omega (arith, b .highIs)))
         (one-track (bothJoin A B) refl refl)
         grant-none grant-none grant-none (pinNet (topNet refl)) (bottomNet refl)
-        (λ n m k. absurd (k refl))
-        (λ n m k. absurd (m refl))
-        (λ n. top-run t tr size (bothJoin A B) (omega arith) d n (λ j e. a .span j e .0) (λ j g. absurd (never j g)))
-        (λ n. bottom-run t tr size (bothJoin A B) (omega arith) d n (λ j e. b .span j e .1) (λ j g. absurd (never j g))),
+        (λ n. inward (inr refl) (b .highIs))
+        (λ n. inward (inl refl) (a .lowIs))
+        (none-given tr (bothJoin A B) refl refl refl)
+        (λ n. top-run t tr size (bothJoin A B) (omega arith) d (omega (arith, a .lowIs)) n (λ j e. a .span j e .0) (λ j g. absurd (never j g)))
+        (λ n. bottom-run t tr size (bothJoin A B) (omega arith) d (omega (arith, b .highIs)) n (λ j e. b .span j e .1) (λ j g. absurd (never j g))),
     record {
       endedOn = λ n q. absurd (omega arith);
       endedOff = λ n q. refl;

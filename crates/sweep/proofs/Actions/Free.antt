@@ -10,11 +10,11 @@ use Rattle.grid.proofs.Drawings.Segments.{Ordered, segment-run, segment-none, a
 use Rattle.sweep.specs.declared.Free.{Free}
 use Rattle.sweep.specs.Rules.{straight, full, topTakesFree, bottomTakesFree, bothTakeFree}
 use Rattle.sweep.proofs.Tracks.Strands.{Strand}
-use Rattle.sweep.proofs.Tracks.After.{one-track, two-tracks, one-leaves, two-leaves, gift-le}
-use Rattle.sweep.proofs.Columns.Sound.{Grant, grant-none, grant-free, pinNet}
+use Rattle.sweep.proofs.Tracks.After.{gives, one-track, two-tracks, one-leaves, two-leaves, gift-le}
+use Rattle.sweep.proofs.Columns.Sound.{Grant, outward, through, grant-none, grant-free, pinNet}
 use Rattle.sweep.specs.Working.{nobody, topNet, bottomNet}
 use Rattle.sweep.proofs.Gaps.Pins.{On, Off}
-use Rattle.sweep.proofs.Actions.Good.{Good, BothOn, none-ends, pin-wires-sound, bottom-end, back-within}
+use Rattle.sweep.proofs.Actions.Good.{Good, BothOn, none-ends, pin-wires-sound, bottom-end, back-within, on-bottom, on-top, none-given, one-given}
 
 module _ (top bottom : List ℕ) (c t : ℕ) (tr : List ℕ) (size : length tr ≡ t) where
   -- NO PINS
@@ -22,7 +22,7 @@ module _ (top bottom : List ℕ) (c t : ℕ) (tr : List ℕ) (size : length tr �
   straight-good = (
     pin-wires-sound zero-le zero-le (segment-run (order t) (topRun refl) 0 zero-le (omega arith)) (one-track straight refl refl) grant-none grant-none grant-none
         (pinNet (nobody refl)) (nobody refl)
-        (λ n m k. absurd (n refl)) (λ n m k. absurd (n refl)) (λ n. absurd (n refl)) (λ n. absurd (n refl)),
+        (λ n. absurd (n refl)) (λ n. absurd (n refl)) (none-given tr straight refl refl refl) (λ n. absurd (n refl)) (λ n. absurd (n refl)),
     none-ends top bottom c t tr straight (λ v n here. absurd (⊎-elim (λ i. n (sym i)) (λ i. n (sym i)) here)) (λ v n m. zero-le) refl refl,
   )
     where
@@ -47,9 +47,10 @@ module _ (top bottom : List ℕ) (c t : ℕ) (tr : List ℕ) (size : length tr �
       closedNamed = nobody refl;
       flat = record { lower = inr (omega arith); upper = inr (omega arith) };
       middleIs = inl refl;
-      bottomOut = λ a b k. absurd (b refl);
-      topOut = λ a b k. absurd (b refl);
-      endedFares = λ a. alone (bottomRun refl) record {
+      bottomLands = λ a. through (inl refl) refl;
+      topLands = λ a. through (inl refl) refl;
+      given = one-given tr (full t v y) refl refl (λ j N e f. on-bottom (full t v y) f e (omega (arith, g .vacant j e .0)));
+      endedFares = λ a. alone (bottomRun refl) (omega arith) record {
         onBottom = λ e p. omega arith;
         onMiddle = λ e p. absurd (omega arith);
         onTop = λ e p. absurd (omega arith);
@@ -77,8 +78,9 @@ module _ (top bottom : List ℕ) (c t : ℕ) (tr : List ℕ) (size : length tr �
   topTakesFree-good f a s on = (
     pin-wires-sound zero-le (omega arith) (segment-none order 0 zero-le (omega arith) (inr zero-le)) (one-track (topTakesFree f a) refl refl)
         (grant-free s (topNet refl)) grant-none grant-none (pinNet (nobody refl)) (nobody refl)
-        (λ n m k. absurd (n refl))
-        (λ n m k. (f .first, one-leaves (topTakesFree f a) tr (one-track (topTakesFree f a) refl refl) s refl, omega arith, omega arith))
+        (λ n. absurd (n refl))
+        (λ n. outward (one-leaves (topTakesFree f a) tr (one-track (topTakesFree f a) refl refl) s refl))
+        (one-given tr (topTakesFree f a) refl refl (λ j N e g. on-top (topTakesFree f a) g e (omega arith) (omega arith)))
         (λ n. absurd (n refl)) (λ n. absurd (n refl)),
     none-ends top bottom c t tr (topTakesFree f a) on (λ v n m. omega (arith, gift-le v (f .first) a)) refl refl,
   )
@@ -91,8 +93,9 @@ module _ (top bottom : List ℕ) (c t : ℕ) (tr : List ℕ) (size : length tr �
   bottomTakesFree-good f b s on = (
     pin-wires-sound (omega arith) (omega arith) (bottom-end t (bottomTakesFree f b) (omega arith) (omega arith)) (one-track (bottomTakesFree f b) refl refl)
         (grant-free s (bottomNet refl)) grant-none grant-none (pinNet (nobody refl)) (nobody refl)
-        (λ n m k. (f .first, one-leaves (bottomTakesFree f b) tr (one-track (bottomTakesFree f b) refl refl) s refl, omega arith, omega arith))
-        (λ n m k. absurd (n refl))
+        (λ n. outward (one-leaves (bottomTakesFree f b) tr (one-track (bottomTakesFree f b) refl refl) s refl))
+        (λ n. absurd (n refl))
+        (one-given tr (bottomTakesFree f b) refl refl (λ j N e g. on-bottom (bottomTakesFree f b) g e (omega arith)))
         (λ n. absurd (n refl)) (λ n. absurd (n refl)),
     none-ends top bottom c t tr (bottomTakesFree f b) on (λ v n m. omega (arith, gift-le v (f .first) b)) refl refl,
   )
@@ -104,8 +107,10 @@ module _ (top bottom : List ℕ) (c t : ℕ) (tr : List ℕ) (size : length tr �
       let d = two-tracks (bothTakeFree f a b) (omega arith) refl in (
         pin-wires-sound (omega arith) (omega arith) (bottom-end t (bothTakeFree f a b) (omega arith) (omega arith)) d (grant-free s (bottomNet refl))
             (grant-free r (topNet refl)) grant-none (pinNet (nobody refl)) (nobody refl)
-            (λ n m k. (f .first, one-leaves (bothTakeFree f a b) tr d s refl, omega arith, omega arith))
-            (λ n m k. (f .second, two-leaves (bothTakeFree f a b) tr d r refl, omega arith, omega arith))
+            (λ n. outward (one-leaves (bothTakeFree f a b) tr d s refl))
+            (λ n. outward (two-leaves (bothTakeFree f a b) tr d r refl))
+            (λ j N n. gives (λ e g. inr (on-bottom (bothTakeFree f a b) g e (omega arith)))
+            (λ e g. inr (on-top (bothTakeFree f a b) g e (omega arith) (omega arith))) (λ e g. absurd (omega arith)))
             (λ n. absurd (n refl)) (λ n. absurd (n refl)),
         none-ends top bottom c t tr (bothTakeFree f a b) on (λ v n m. omega (arith, gift-le v (f .first) b, gift-le v (f .second) a)) refl refl,
       )

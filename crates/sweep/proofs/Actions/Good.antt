@@ -11,14 +11,14 @@ use Rattle.grid.specs.Channel.{pick, bit, times, left}
 use Rattle.grid.proofs.Tests.{Same, same, diff, sameBy, bit-most}
 use Rattle.grid.proofs.Counting.{at-below}
 use Rattle.grid.specs.Segments.{segment}
-use Rattle.grid.proofs.Drawings.Segments.{Ordered, segment-run, Fares, alone, bottomRun, topRun}
+use Rattle.grid.proofs.Drawings.Segments.{Ordered, segment-run, AtRun, Fares, alone, bottomRun, topRun}
 use Rattle.sweep.specs.declared.Action.{Action}
 use Rattle.sweep.specs.Tracks.{after}
 use Rattle.sweep.specs.Working.{Named}
 use Rattle.sweep.specs.Rules.{pinWires, goes, act, taken}
 use Rattle.sweep.proofs.Tracks.Strands.{Strand}
-use Rattle.sweep.proofs.Tracks.After.{Gives, Distinct, after-length, after-back, gift, gift-le, gift-other, gifts}
-use Rattle.sweep.proofs.Columns.Sound.{Sound, Known, Grant, Out, on}
+use Rattle.sweep.proofs.Tracks.After.{Gives, gives, Distinct, after-length, after-back, gift, gift-le, gift-other, gifts}
+use Rattle.sweep.proofs.Columns.Sound.{Sound, Known, Grant, Lands, Given, on}
 use Rattle.sweep.proofs.Gaps.Pins.{On, Off}
 use Rattle.sweep.proofs.Gaps.Keeps.{Follows}
 
@@ -73,23 +73,41 @@ pub back-within : (x : Action) (tr : List ℕ) (N lo hi : ℕ) → N ≢ 0
 back-within x tr N lo hi n ins outs j e =
     ⊎-elim (outs j (rw after-length at (at-below (after x tr) j N n e))) (λ d. ins j (d .0)) (after-back x tr j N n e)
 
+-- A TRACK GIVEN to a pin's net meets its pin's run
+pub on-bottom : {t y N j : ℕ} (x : Action) → x .wires .bottom ≡ N → y ≡ suc j → y ≤ x .wires .low → AtRun t (x .wires) N (suc j)
+on-bottom x e i p = (0, x .wires .low, bottomRun e, omega arith, zero-le, omega arith)
+
+pub on-top : {t y N j : ℕ} (x : Action) → x .wires .top ≡ N → y ≡ suc j → x .wires .high ≤ y → y ≤ t → AtRun t (x .wires) N (suc j)
+on-top {t} x e i p q = (x .wires .high, suc t, topRun e, omega arith, omega arith, omega arith)
+
+-- no track is given, or one
+pub none-given : {t : ℕ} (tr : List ℕ) (x : Action) → x .gift1 .track ≡ 0 → x .gift2 .track ≡ 0 → x .gift3 .track ≡ 0 → Given t x tr
+none-given tr x a b c j N n = gives (λ e f. absurd (omega arith)) (λ e f. absurd (omega arith)) (λ e f. absurd (omega arith))
+
+pub one-given : {t : ℕ} (tr : List ℕ) (x : Action) → x .gift2 .track ≡ 0 → x .gift3 .track ≡ 0
+    → ((j N : ℕ) → x .gift1 .track ≡ suc j → x .gift1 .net ≡ N → AtRun t (x .wires) N (suc j))
+    → Given t x tr
+one-given tr x b c at j N n = gives (λ e f. inr (at j N e f)) (λ e f. absurd (omega arith)) (λ e f. absurd (omega arith))
+
 -- THE RUN OF A PIN'S NET THAT ENDS, the top net's and the bottom net's
 module _ (t : ℕ) (tr : List ℕ) (size : length tr ≡ t) (x : Action) (empty : x .wires .stop ≤ x .wires .start) (d : x .wires .bottom ≢ x .wires .top) where
   -- above: what it has lies above row high
-  pub top-run : x .wires .top ≢ 0 → ((j : ℕ) → getD tr j 0 ≡ x .wires .top → x .wires .high ≤ suc j) → ((j : ℕ) → Gives x j (x .wires .top) → x .wires .high ≤ suc j)
+  pub top-run : x .wires .high ≤ t → x .wires .top ≢ 0 → ((j : ℕ) → getD tr j 0 ≡ x .wires .top → x .wires .high ≤ suc j)
+      → ((j : ℕ) → Gives x j (x .wires .top) → x .wires .high ≤ suc j)
       → Fares t (x .wires) (on tr) (on (after x tr)) (x .wires .top)
-  top-run n ins outs =
-      alone (topRun refl) record { onBottom = λ e p. absurd (d e); onMiddle = λ e p. absurd (omega arith); onTop = λ e p. omega arith } within
+  top-run some n ins outs =
+      alone (topRun refl) (omega arith) record { onBottom = λ e p. absurd (d e); onMiddle = λ e p. absurd (omega arith); onTop = λ e p. omega arith } within
       (back-within x tr (x .wires .top) (x .wires .high) (suc t) n within (λ j p g. (outs j g, omega arith)))
     where
       within : (j : ℕ) → getD tr j 0 ≡ x .wires .top → (x .wires .high ≤ suc j) × (suc j ≤ suc t)
       within j e = (ins j e, omega (arith, at-below tr j (x .wires .top) n e))
 
   -- below: what it has lies below row low
-  pub bottom-run : x .wires .bottom ≢ 0 → ((j : ℕ) → getD tr j 0 ≡ x .wires .bottom → suc j ≤ x .wires .low) → ((j : ℕ) → Gives x j (x .wires .bottom) → suc j ≤ x .wires .low)
+  pub bottom-run : 0 < x .wires .low → x .wires .bottom ≢ 0 → ((j : ℕ) → getD tr j 0 ≡ x .wires .bottom → suc j ≤ x .wires .low)
+      → ((j : ℕ) → Gives x j (x .wires .bottom) → suc j ≤ x .wires .low)
       → Fares t (x .wires) (on tr) (on (after x tr)) (x .wires .bottom)
-  bottom-run n ins outs =
-      alone (bottomRun refl) record { onBottom = λ e p. omega arith; onMiddle = λ e p. absurd (omega arith); onTop = λ e p. absurd (d (sym e)) }
+  bottom-run some n ins outs =
+      alone (bottomRun refl) some record { onBottom = λ e p. omega arith; onMiddle = λ e p. absurd (omega arith); onTop = λ e p. absurd (d (sym e)) }
       (λ j e. (zero-le, ins j e))
       (back-within x tr (x .wires .bottom) 0 (x .wires .low) n (λ j e. (zero-le, ins j e)) (λ j p g. (zero-le, outs j g)))
 
@@ -98,12 +116,13 @@ pub pin-wires-sound : {t P Q q p e c t1 n1 t2 n2 t3 n3 : ℕ} {tr : List ℕ} �
     → segment ((act (pinWires Q q P p) e c (goes t1 n1) (goes t2 n2) (goes t3 n3)) .wires) 0 ≡ Q
     → Distinct (act (pinWires Q q P p) e c (goes t1 n1) (goes t2 n2) (goes t3 n3))
     → Grant P Q e tr t1 n1 → Grant P Q e tr t2 n2 → Grant P Q e tr t3 n3 → Known P Q tr e → Named P Q e c
-    → (Q ≢ 0 → e ≢ Q → c ≢ Q → Out (act (pinWires Q q P p) e c (goes t1 n1) (goes t2 n2) (goes t3 n3)) tr Q 0 q)
-    → (P ≢ 0 → e ≢ P → c ≢ P → Out (act (pinWires Q q P p) e c (goes t1 n1) (goes t2 n2) (goes t3 n3)) tr P p (suc t))
+    → (Q ≢ 0 → Lands t (act (pinWires Q q P p) e c (goes t1 n1) (goes t2 n2) (goes t3 n3)) tr Q q)
+    → (P ≢ 0 → Lands t (act (pinWires Q q P p) e c (goes t1 n1) (goes t2 n2) (goes t3 n3)) tr P p)
+    → Given t (act (pinWires Q q P p) e c (goes t1 n1) (goes t2 n2) (goes t3 n3)) tr
     → (e ≢ 0 → Fares t ((act (pinWires Q q P p) e c (goes t1 n1) (goes t2 n2) (goes t3 n3)) .wires) (on tr) (on (after (act (pinWires Q q P p) e c (goes t1 n1) (goes t2 n2) (goes t3 n3)) tr)) e)
     → (c ≢ 0 → Fares t ((act (pinWires Q q P p) e c (goes t1 n1) (goes t2 n2) (goes t3 n3)) .wires) (on tr) (on (after (act (pinWires Q q P p) e c (goes t1 n1) (goes t2 n2) (goes t3 n3)) tr)) c)
     → Sound t P Q tr (act (pinWires Q q P p) e c (goes t1 n1) (goes t2 n2) (goes t3 n3))
-pin-wires-sound {t} {P} {Q} {q} {p} {e} {c} {t1} {n1} {t2} {n2} {t3} {n3} a b v d g1 g2 g3 k1 k2 o1 o2 f1 f2 = record {
+pin-wires-sound {t} {P} {Q} {q} {p} {e} {c} {t1} {n1} {t2} {n2} {t3} {n3} a b v d g1 g2 g3 k1 k2 o1 o2 w f1 f2 = record {
   order = order;
   bottomIs = refl;
   topIs = refl;
@@ -117,8 +136,9 @@ pin-wires-sound {t} {P} {Q} {q} {p} {e} {c} {t1} {n1} {t2} {n2} {t3} {n3} a b v 
   closedNamed = k2;
   flat = record { lower = inr (omega arith); upper = inl refl };
   middleIs = inl refl;
-  bottomOut = o1;
-  topOut = o2;
+  bottomLands = o1;
+  topLands = o2;
+  given = w;
   endedFares = f1;
   closedFares = f2;
 }

@@ -5,6 +5,7 @@ use mathlib.Core.Logic.{inl, inr, _≢_, ⊎-elim}
 use mathlib.Core.Bool.{Bool, true, false}
 use mathlib.Core.List.{List}
 use native.Mathlib.Omega.{arith}
+use native.Mathlib.Decide.{ℕ-discrete}
 use lib.Dec.{eqb}
 use lib.ListN.{length, getD}
 use Rattle.grid.specs.Channel.{pick, times, right}
@@ -15,14 +16,14 @@ use Rattle.sweep.specs.declared.Joint.{Joint}
 use Rattle.sweep.specs.Tracks.{lowest, highest, after}
 use Rattle.sweep.specs.Rules.{taken, joinNet}
 use Rattle.sweep.specs.Drawing.{joining}
-use Rattle.sweep.proofs.Tracks.Strands.{Strand, strand-is, strand-times, lowest-is, highest-is, between}
+use Rattle.sweep.proofs.Tracks.Strands.{Strand, strand-is, strand-times, lowest-is, highest-is, lowest<highest, between}
 use Rattle.sweep.proofs.Tracks.After.{Gives, one, two, three, gives, Distinct, one-track, one-leaves, two-leaves, three-leaves, gift, gift-le}
 use Rattle.sweep.proofs.Tracks.After.{gift-other, gifts}
-use Rattle.sweep.proofs.Columns.Sound.{Sound, Grant, grant-idle, grant-none, grant-old, grant-unless, strandNet}
+use Rattle.sweep.proofs.Columns.Sound.{Sound, Grant, Lands, outward, inward, grant-idle, grant-none, grant-old, grant-unless, strandNet}
 use Rattle.sweep.specs.Working.{nobody, topNet, bottomNet, endedNet}
 use Rattle.sweep.proofs.Gaps.Pins.{true-of, false-of}
 use Rattle.sweep.proofs.Gaps.Joints.{Bound}
-use Rattle.sweep.proofs.Actions.Good.{Good, Begun, taken-some, pick-diff, pick-track, gift-own, back-within}
+use Rattle.sweep.proofs.Actions.Good.{Good, Begun, taken-some, pick-diff, pick-track, gift-own, back-within, on-bottom, on-top, none-given}
 
 -- RULE 2: net N is joined. The nets a and b of the top and the bottom pin may be N, one other net, two, or none
 module _ (top bottom : List ℕ) (c t : ℕ) (tr : List ℕ) (size : length tr ≡ t) (N : Joint) (a b : ℕ) (g : Bound tr N) where
@@ -70,6 +71,21 @@ module _ (top bottom : List ℕ) (c t : ℕ) (tr : List ℕ) (size : length tr �
   top-goes : a ≢ 0 → N .net ≢ a → Strand a (after (joinNet N a b) tr) (N .high)
   top-goes n m = two-leaves (joinNet N a b) tr apart (g .highIs) (pick-diff a (N .net) 0 _ (λ i. m (sym i)) ∙ taken-some a (N .high) n)
 
+  -- a pin's run ends where its net leaves, or at N's strand
+  bottom-ends : b ≢ 0 → Lands t (joinNet N a b) tr b (N .low)
+  bottom-ends n = go (ℕ-discrete (N .net) b)
+    where
+      go : Dec (N .net ≡ b) → Lands t (joinNet N a b) tr b (N .low)
+      go (yes e) = inward (inl e) (strand-is e (g .lowIs))
+      go (no m) = outward (bottom-goes n m)
+
+  top-ends : a ≢ 0 → Lands t (joinNet N a b) tr a (N .high)
+  top-ends n = go (ℕ-discrete (N .net) a)
+    where
+      go : Dec (N .net ≡ a) → Lands t (joinNet N a b) tr a (N .high)
+      go (yes e) = inward (inl e) (strand-is e (g .highIs))
+      go (no m) = outward (top-goes n m)
+
   -- its column fits
   join-sound : Sound t a b tr (joinNet N a b)
   join-sound = record {
@@ -85,10 +101,13 @@ module _ (top bottom : List ℕ) (c t : ℕ) (tr : List ℕ) (size : length tr �
     endedKnown = strandNet (g .lowIs);
     closedNamed = nobody refl;
     flat = record { lower = inr (omega arith); upper = inr (omega arith) };
-    middleIs = inr (refl, (g .lowIs .index, g .lowIs .holds));
-    bottomOut = λ n m k. (N .low, bottom-goes n m, omega arith, omega arith);
-    topOut = λ n m k. (N .high, top-goes n m, omega arith, omega (arith, g .highIs));
-    endedFares = λ n. joined join-order refl refl refl (g .span) (back-within (joinNet N a b) tr (N .net) (N .low) (N .high) n (g .span) out);
+    middleIs = inr (refl, g .lowIs, g .highIs);
+    bottomLands = bottom-ends;
+    topLands = top-ends;
+    given = λ j M n. gives (λ e f. inr (on-bottom (joinNet N a b) f (first-track j e) (omega arith)))
+        (λ e f. inr (on-top (joinNet N a b) f (second-track j e) (omega arith) (omega (arith, g .highIs))))
+        (λ e f. inr (N .low, N .high, middleRun f, g .apart, omega (arith, third-track j e), omega (arith, third-track j e)));
+    endedFares = λ n. joined join-order refl (g .apart) refl refl (g .span) (back-within (joinNet N a b) tr (N .net) (N .low) (N .high) n (g .span) out);
     closedFares = λ n. absurd (n refl);
   }
 
@@ -122,12 +141,12 @@ module _ (top bottom : List ℕ) (c t : ℕ) (tr : List ℕ) (size : length tr �
     },
   )
 
--- AFTER COLUMN n: net v is joined, and nothing else is done
-pub joining-sound : (t : ℕ) (tr : List ℕ) → length tr ≡ t → (v : ℕ) → v ≢ 0 → 0 < times v tr → Sound t 0 0 tr (joining tr v)
+-- AFTER COLUMN n: net v, of two strands or more, is joined, and nothing else is done
+pub joining-sound : (t : ℕ) (tr : List ℕ) → length tr ≡ t → (v : ℕ) → v ≢ 0 → 1 < times v tr → Sound t 0 0 tr (joining tr v)
 unfolding joining
 joining-sound t tr size v n p =
-    let low = lowest-is v tr p in
-    let high = highest-is v tr p in
+    let low = lowest-is v tr (omega arith) in
+    let high = highest-is v tr (omega arith) in
     let span : (j : ℕ) → getD tr j 0 ≡ v → (lowest v tr ≤ suc j) × (suc j ≤ highest v tr) = λ j e. between v tr j (at-below tr j v n e) e in
     let order : Ordered t ((joining tr v) .wires) = omega (arith, low, high, span (low .index) (low .holds)) in
     record {
@@ -143,10 +162,11 @@ joining-sound t tr size v n p =
       endedKnown = strandNet low;
       closedNamed = nobody refl;
       flat = record { lower = inl refl; upper = inr (omega arith) };
-      middleIs = inr (refl, (low .index, low .holds));
-      bottomOut = λ n m k. absurd (n refl);
-      topOut = λ n m k. absurd (n refl);
-      endedFares = λ n. alone (middleRun refl) record {
+      middleIs = inr (refl, low, high);
+      bottomLands = λ n. absurd (n refl);
+      topLands = λ n. absurd (n refl);
+      given = none-given tr (joining tr v) refl refl refl;
+      endedFares = λ n. alone (middleRun refl) (lowest<highest v tr p) record {
         onBottom = λ e q. absurd (n (sym e));
         onMiddle = λ e q. omega arith;
         onTop = λ e q. absurd (n (sym e));

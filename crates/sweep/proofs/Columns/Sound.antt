@@ -1,4 +1,5 @@
--- What an action has to show for its column to fit: every track that it gives was free or belonged to the net that ends, so all other strands run straight.
+-- What an action has to show for its column to fit: every track that it gives was free or belonged to the net that ends, so all other strands run straight;
+-- and its wires end at strands, so no end is loose.
 use Prim.Native.Nat.{ℕ, zero, suc, _≤_, _<_}
 use mathlib.Core.Path.{_≡_, refl, sym, _∙_, subst}
 use mathlib.Core.Logic.{_⊎_, inl, inr, _≢_, ⊎-elim}
@@ -10,7 +11,9 @@ use lib.ListN.{length, getD}
 use Rattle.grid.specs.Channel.{pick}
 use Rattle.grid.proofs.Drawings.Columns.{Column}
 use Rattle.grid.specs.Segments.{segment}
-use Rattle.grid.proofs.Drawings.Segments.{Ordered, Fares, carried, Source, segments-column}
+use Rattle.grid.proofs.Drawings.Segments.{Ordered, AtRun, GoOn, Fares, carried}
+use Rattle.grid.proofs.Drawings.Ends.{Stop, atBottom, atTop, atLeft, atRight, Stopped}
+use Rattle.grid.proofs.Drawings.Fits.{Source, segments-column}
 use Rattle.sweep.specs.declared.Action.{Action}
 use Rattle.sweep.specs.Tracks.{verticals, after, clear, give}
 use Rattle.sweep.specs.Working.{FreeAt, Applies, Named, nobody, topNet, bottomNet, endedNet, Flat, Plain}
@@ -31,12 +34,18 @@ pub data Known (P Q : ℕ) (tr : List ℕ) (v : ℕ) : Type 0 where
 
 -- track y (0: none) goes to the net v: it is free or belongs to the net e that ends
 pub record Grant (P Q e : ℕ) (tr : List ℕ) (y v : ℕ) : Type 0 where
-  pub loose : (j : ℕ) → y ≡ suc j → (j < length tr) × ((getD tr j 0 ≡ 0) ⊎ (getD tr j 0 ≡ e))
+  pub vacant : (j : ℕ) → y ≡ suc j → (j < length tr) × ((getD tr j 0 ≡ 0) ⊎ (getD tr j 0 ≡ e))
   pub named : Named P Q e v
 
--- a strand of N leaves on a track from lo to hi
-abbrev pub Out : (x : Action) (tr : List ℕ) (N lo hi : ℕ) → Type 0
-Out x tr N lo hi = (y : ℕ) × Strand N (after x tr) y × (lo ≤ y) × (y ≤ hi)
+-- where the run of a pin's net N ends, at row r: N leaves there; or its strands end, and one comes in there; or its strands end and the run goes through
+pub data Lands (t : ℕ) (x : Action) (tr : List ℕ) (N r : ℕ) : Type 0 where
+  outward : Strand N (after x tr) r → Lands t x tr N r
+  inward : (x .ended ≡ N) ⊎ (x .closed ≡ N) → Strand N tr r → Lands t x tr N r
+  through : (x .ended ≡ N) ⊎ (x .closed ≡ N) → r ≡ suc t → Lands t x tr N r
+
+-- a track given to N was its own, or meets a run of it
+abbrev pub Given : (t : ℕ) (x : Action) (tr : List ℕ) → Type 0
+Given t x tr = (j N : ℕ) → N ≢ 0 → Gives x j N → (getD tr j 0 ≡ N) ⊎ AtRun t (x .wires) N (suc j)
 
 pub record Sound (t P Q : ℕ) (tr : List ℕ) (x : Action) : Type 0 where
   pub order : Ordered t (x .wires)
@@ -51,20 +60,34 @@ pub record Sound (t P Q : ℕ) (tr : List ℕ) (x : Action) : Type 0 where
   pub endedKnown : Known P Q tr (x .ended)
   pub closedNamed : Named P Q (x .ended) (x .closed)
   pub flat : Flat (x .wires)
-  pub middleIs : (x .wires .middle ≡ 0) ⊎ ((x .wires .middle ≡ x .ended) × ((j : ℕ) × (getD tr j 0 ≡ x .ended)))
-  -- a pin's net that goes on leaves from its pin's run
-  pub bottomOut : Q ≢ 0 → x .ended ≢ Q → x .closed ≢ Q → Out x tr Q 0 (x .wires .low)
-  pub topOut : P ≢ 0 → x .ended ≢ P → x .closed ≢ P → Out x tr P (x .wires .high) (suc t)
+  -- the middle net ends, and its run joins two of its strands
+  pub middleIs : (x .wires .middle ≡ 0) ⊎ ((x .wires .middle ≡ x .ended) × Strand (x .ended) tr (x .wires .start) × Strand (x .ended) tr (x .wires .stop))
+  -- a pin's run ends at a strand of its net, and a net that goes on leaves there
+  pub bottomLands : Q ≢ 0 → Lands t x tr Q (x .wires .low)
+  pub topLands : P ≢ 0 → Lands t x tr P (x .wires .high)
+  pub given : Given t x tr
   pub endedFares : x .ended ≢ 0 → Fares t (x .wires) (on tr) (on (after x tr)) (x .ended)
   pub closedFares : x .closed ≢ 0 → Fares t (x .wires) (on tr) (on (after x tr)) (x .closed)
 
 -- a strand as the segments have it
-pub out-at : {N lo hi : ℕ} {tr : List ℕ} → (y : ℕ) × Strand N tr y × (lo ≤ y) × (y ≤ hi) → (j : ℕ) × (getD tr j 0 ≡ N) × (lo ≤ suc j) × (suc j ≤ hi)
-out-at (y, s, p, q) = (s .index, s .holds, omega (arith, s .is), omega (arith, s .is))
+pub out-at : {N y lo hi : ℕ} {tr : List ℕ} → Strand N tr y → lo ≤ y → y ≤ hi → (j : ℕ) × (getD tr j 0 ≡ N) × (lo ≤ suc j) × (suc j ≤ hi)
+out-at s p q = (s .index, s .holds, omega (arith, s .is), omega (arith, s .is))
+
+-- the run of a net that goes on ends where it leaves
+pub lands-out : {t N r : ℕ} {x : Action} {tr : List ℕ} → x .ended ≢ N → x .closed ≢ N → Lands t x tr N r → Strand N (after x tr) r
+lands-out m k (outward s) = s
+lands-out m k (inward o s) = absurd (⊎-elim m k o)
+lands-out m k (through o e) = absurd (⊎-elim m k o)
+
+-- and any run at a strand or beyond the tracks
+lands-stop : {t N r : ℕ} {x : Action} {tr : List ℕ} → Lands t x tr N r → Stop t (on tr) (on (after x tr)) N r
+lands-stop (outward s) = atRight (s .is) (s .holds)
+lands-stop (inward o s) = atLeft (s .is) (s .holds)
+lands-stop (through o e) = atTop e
 
 -- another net's strand is not given away
 not-given : {P Q e : ℕ} {tr : List ℕ} {y v : ℕ} → Grant P Q e tr y v → (j N : ℕ) → N ≢ 0 → e ≢ N → getD tr j 0 ≡ N → y ≢ suc j
-not-given g j N n m f i = ⊎-elim (λ z. n (sym f ∙ z)) (λ z. m (sym z ∙ f)) (g .loose j i .1)
+not-given g j N n m f i = ⊎-elim (λ z. n (sym f ∙ z)) (λ z. m (sym z ∙ f)) (g .vacant j i .1)
 
 module _ (t P Q : ℕ) (tr : List ℕ) (x : Action) (s : Sound t P Q tr x) where
   -- ALL OTHER STRANDS RUN STRAIGHT
@@ -72,16 +95,21 @@ module _ (t P Q : ℕ) (tr : List ℕ) (x : Action) (s : Sound t P Q tr x) where
   kept j N n m k f =
       strand-at (runs-on x tr (strand-of N tr j n f) m k (not-given (s .grant1) j N n m f) (not-given (s .grant2) j N n m f) (not-given (s .grant3) j N n m f))
 
+  -- where a pin's run ends, by its net
+  pub bottom-lands : (N : ℕ) → N ≢ 0 → Q ≡ N → Lands t x tr N (x .wires .low)
+  bottom-lands N n e = subst (λ (z : ℕ). Lands t x tr z (x .wires .low)) e (s .bottomLands (λ i. n (sym e ∙ i)))
+
+  pub top-lands : (N : ℕ) → N ≢ 0 → P ≡ N → Lands t x tr N (x .wires .high)
+  top-lands N n e = subst (λ (z : ℕ). Lands t x tr z (x .wires .high)) e (s .topLands (λ i. n (sym e ∙ i)))
+
   -- a net that does not end is carried on
   others : (N : ℕ) → N ≢ 0 → x .ended ≢ N → x .closed ≢ N → Fares t (x .wires) (on tr) (on (after x tr)) N
   others N n m k =
       carried record {
         exits = record {
-          onBottom = λ e p. (let f : Q ≡ N = sym (s .bottomIs) ∙ e in out-at
-              (subst (λ (z : ℕ). Out x tr z 0 (x .wires .low)) f (s .bottomOut (λ i. n (sym f ∙ i)) (λ i. m (i ∙ f)) (λ i. k (i ∙ f)))));
+          onBottom = λ e p. out-at (lands-out m k (bottom-lands N n (sym (s .bottomIs) ∙ e))) (omega arith) (omega arith);
           onMiddle = λ e p. ⊎-elim (λ z. absurd (n (sym e ∙ z))) (λ z. absurd (m (sym (z .0) ∙ e))) (s .middleIs);
-          onTop = λ e p. (let f : P ≡ N = sym (s .topIs) ∙ e in out-at
-              (subst (λ (z : ℕ). Out x tr z (x .wires .high) (suc t)) f (s .topOut (λ i. n (sym f ∙ i)) (λ i. m (i ∙ f)) (λ i. k (i ∙ f)))));
+          onTop = λ e p. out-at (lands-out m k (top-lands N n (sym (s .topIs) ∙ e))) (omega arith) (omega arith);
         };
         ins = λ j e. inl (kept j N n m k e);
       }
@@ -95,6 +123,20 @@ module _ (t P Q : ℕ) (tr : List ℕ) (x : Action) (s : Sound t P Q tr x) where
       go (no m) (yes e) = subst (λ (z : ℕ). Fares t (x .wires) (on tr) (on (after x tr)) z) e (s .closedFares (λ i. n (sym e ∙ i)))
       go (no m) (no k) = others N n m k
 
+  -- NO LOOSE END: every run ends at a strand or beyond the tracks
+  ends : (N : ℕ) → N ≢ 0 → Stopped t (x .wires) (on tr) (on (after x tr)) N
+  ends N n = record {
+    onBottom = λ e p. (atBottom refl, lands-stop (bottom-lands N n (sym (s .bottomIs) ∙ e)));
+    onMiddle = λ e p.
+        ⊎-elim (λ z. absurd (n (sym e ∙ z))) (λ z. (let f = sym (z .0) ∙ e in (atLeft (z .1 .is) (z .1 .holds ∙ f), atLeft (z .2 .is) (z .2 .holds ∙ f))))
+        (s .middleIs);
+    onTop = λ e p. (lands-stop (top-lands N n (sym (s .topIs) ∙ e)), atTop refl);
+  }
+
+  -- and what leaves came in there, or meets a run
+  outs : (N : ℕ) → N ≢ 0 → GoOn t (x .wires) (on (after x tr)) (on tr) N
+  outs N n j e = ⊎-elim (s .given j N n) (λ d. inl (d .0)) (after-back x tr j N n e)
+
   -- a net that the action names has a pin or a strand here
   known : {v : ℕ} → Named P Q (x .ended) v → Known P Q tr v
   known (nobody z) = pinNet (nobody z)
@@ -104,7 +146,7 @@ module _ (t P Q : ℕ) (tr : List ℕ) (x : Action) (s : Sound t P Q tr x) where
 
   -- what leaves has a pin here or came in
   pub source : (j N : ℕ) → N ≢ 0 → getD (after x tr) j 0 ≡ N → Source P Q (on tr) N
-  source j N n e = ⊎-elim given (λ d. inr (j, d .0)) (after-back x tr j N n e)
+  source j N n e = ⊎-elim from (λ d. inr (j, d .0)) (after-back x tr j N n e)
     where
       at : {v : ℕ} → v ≡ N → Known P Q tr v → Source P Q (on tr) N
       at f (pinNet (nobody z)) = absurd (n (sym f ∙ z))
@@ -113,10 +155,10 @@ module _ (t P Q : ℕ) (tr : List ℕ) (x : Action) (s : Sound t P Q tr x) where
       at f (pinNet (endedNet z)) = absurd (n (sym f ∙ z))
       at f (strandNet z) = inr (z .index, z .holds ∙ f)
 
-      given : Gives x j N → Source P Q (on tr) N
-      given (one e f) = at f (known (s .grant1 .named))
-      given (two e f) = at f (known (s .grant2 .named))
-      given (three e f) = at f (known (s .grant3 .named))
+      from : Gives x j N → Source P Q (on tr) N
+      from (one e f) = at f (known (s .grant1 .named))
+      from (two e f) = at f (known (s .grant2 .named))
+      from (three e f) = at f (known (s .grant3 .named))
 
   -- THE COLUMN FITS
   pub column : Column t P Q (on tr) (λ y. getD (verticals t x) y 0) (on (after x tr))
@@ -126,9 +168,11 @@ module _ (t P Q : ℕ) (tr : List ℕ) (x : Action) (s : Sound t P Q tr x) where
     topIs = s .topIs;
     bottomEnd = s .bottomEnd;
     topEnd = s .topEnd;
-    middleFrom = λ n. ⊎-elim (λ z. absurd (n z)) (λ z. inr (z .1 .0, z .1 .1 ∙ sym (z .0))) (s .middleIs);
+    middleFrom = λ n. ⊎-elim (λ z. absurd (n z)) (λ z. inr (z .1 .index, z .1 .holds ∙ sym (z .0))) (s .middleIs);
     outFrom = source;
     fares = fares;
+    ends = ends;
+    outs = outs;
   }
 
   -- THE TRACKS GIVEN ARE FREE BY THEN
@@ -138,7 +182,7 @@ module _ (t P Q : ℕ) (tr : List ℕ) (x : Action) (s : Sound t P Q tr x) where
   -- once the nets have ended, a track given is free
   free-base : {y v : ℕ} → Grant P Q (x .ended) tr y v → (j : ℕ) → y ≡ suc j → (j < length base) × (getD base j 0 ≡ 0)
   free-base g j e =
-      (simp length-clear (g .loose j e .0), clear-free (x .closed) (clear (x .ended) tr) j (inl (clear-free (x .ended) tr j (g .loose j e .1))))
+      (simp length-clear (g .vacant j e .0), clear-free (x .closed) (clear (x .ended) tr) j (inl (clear-free (x .ended) tr j (g .vacant j e .1))))
 
   -- a track that is free wherever it is one
   free-at : (y : ℕ) (l : List ℕ) → ((j : ℕ) → y ≡ suc j → (j < length l) × (getD l j 0 ≡ 0)) → FreeAt y l
@@ -172,7 +216,7 @@ module _ (t P Q : ℕ) (tr : List ℕ) (x : Action) (s : Sound t P Q tr x) where
 module _ {P Q e : ℕ} {tr : List ℕ} where
   -- none
   pub grant-idle : {v : ℕ} → Named P Q e v → Grant P Q e tr 0 v
-  grant-idle k = record { loose = λ j i. absurd (omega arith); named = k }
+  grant-idle k = record { vacant = λ j i. absurd (omega arith); named = k }
 
   pub grant-none : Grant P Q e tr 0 0
   grant-none = grant-idle (nobody refl)
@@ -180,7 +224,7 @@ module _ {P Q e : ℕ} {tr : List ℕ} where
   -- a free track, or one of the net that ends
   grant-by : {u y v : ℕ} → (u ≡ 0) ⊎ (u ≡ e) → Strand u tr y → Named P Q e v → Grant P Q e tr y v
   grant-by {u} {y} o s k = record {
-    loose = λ j i. (let h : getD tr j 0 ≡ u = strand-at (rw i at s) in (omega (arith, s .is, s .inside), ⊎-elim (λ z. inl (h ∙ z)) (λ z. inr (h ∙ z)) o));
+    vacant = λ j i. (let h : getD tr j 0 ≡ u = strand-at (rw i at s) in (omega (arith, s .is, s .inside), ⊎-elim (λ z. inl (h ∙ z)) (λ z. inr (h ∙ z)) o));
     named = k;
   }
 

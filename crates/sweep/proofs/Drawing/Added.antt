@@ -70,11 +70,20 @@ module _ (g : List ℕ) where
   unfolding rest
   rest-same v e = clear-idle (suc v) (rest g v) (inr (rest-times v (suc v) (omega arith) ∙ remains-none (suc v) e))
 
+  -- no net has a single strand
+  abbrev pub Done : Type 0
+  Done = (v : ℕ) → v ≢ 0 → (times v g ≡ 0) ⊎ (2 ≤ times v g)
+
+  -- so one that remains has two or more
+  remains-two : Done → (v : ℕ) → v ≢ 0 → remains g v ≡ true → 1 < times v g
+  remains-two done v n e = ⊎-elim (λ z. absurd (omega (arith, remains-some v e))) (λ z. z) (done v n)
+
   -- THE COLUMNS ADDED FIT, after k columns with the gap g and no pins from there on
   module _ (top bottom : List ℕ) (t : ℕ) (size : length g ≡ t) (k : ℕ) (D : List ℕ) (drawn : Drawn top bottom t k D g)
-      (no-top : (x : ℕ) → k ≤ x → getD top x 0 ≡ 0) (no-bottom : (x : ℕ) → k ≤ x → getD bottom x 0 ≡ 0) where
+      (no-top : (x : ℕ) → k ≤ x → getD top x 0 ≡ 0) (no-bottom : (x : ℕ) → k ≤ x → getD bottom x 0 ≡ 0)
+      (done : Done) where
     -- the column that joins net v + 1
-    joining-column : (x v : ℕ) → k ≤ x → 0 < times (suc v) g
+    joining-column : (x v : ℕ) → k ≤ x → 1 < times (suc v) g
         → Column t (getD top x 0) (getD bottom x 0) (on (rest g v)) (λ y. getD (verticals t (joining (rest g v) (suc v))) y 0) (on (rest g (suc v)))
     unfolding rest
     joining-column x v p q =
@@ -102,7 +111,7 @@ module _ (g : List ℕ) where
             subst₂ (λ (w : ℕ) (l : List ℕ). Drawn top bottom t w l (rest g (suc v))) (omega arith)
             (append-assoc D (added t g v) (verticals t (joining (rest g v) (suc v)) ++ rest g (suc v)))
             (more top bottom t (verticals t (joining (rest g v) (suc v))) (rest g (suc v)) d (verticals-length t _) (rest-length (suc v) ∙ size)
-            (joining-column (k + count (remains g) v) v (omega arith) (remains-some (suc v) e))
+            (joining-column (k + count (remains g) v) v (omega arith) (remains-two done (suc v) (omega arith) e))
             (no-lives (k + count (remains g) v) (on (rest g v)) (omega arith)))
         go false e d =
             subst₂ (λ (w : ℕ) (l : List ℕ). Drawn top bottom t w l (rest g (suc v))) (omega arith)
@@ -111,12 +120,12 @@ module _ (g : List ℕ) where
             (sym (rest-same v e)) d)
 
   -- HOW MANY: each joins two tracks or more
-  pub added-few : ((v : ℕ) → v ≢ 0 → (times v g ≡ 0) ⊎ (2 ≤ times v g)) → (k : ℕ) → 2 * count (remains g) k ≤ length g
+  pub added-few : Done → (k : ℕ) → 2 * count (remains g) k ≤ length g
   unfolding count sum
   added-few done k = omega (arith, twice k, sum-times g k)
     where
       two : (v : ℕ) → v ≢ 0 → (q : Bool) → remains g v ≡ q → 2 * bit q ≤ times v g
-      two v n true e = let p = remains-some v e in ⊎-elim (λ z. omega arith) (λ z. omega arith) (done v n)
+      two v n true e = remains-two done v n e
       two v n false e = omega arith
 
       twice : (k : ℕ) → 2 * count (remains g) k ≤ sum (λ v. times v g) k

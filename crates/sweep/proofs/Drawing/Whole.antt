@@ -16,7 +16,7 @@ use Rattle.sweep.proofs.Columns.Entries.{verticals-length}
 use Rattle.sweep.proofs.Columns.Sound.{on, column}
 use Rattle.sweep.proofs.Gaps.Held.{Enough, no-more}
 use Rattle.sweep.proofs.Drawing.Sweep.{invariant, sound}
-use Rattle.sweep.proofs.Drawing.Added.{rest-back, added-drawn, added-few}
+use Rattle.sweep.proofs.Drawing.Added.{rest-back, Done, added-drawn, added-few}
 
 module _ (t : ℕ) (top bottom : List ℕ) (fit : RowsFit top bottom) (enough : Enough t top bottom) where
   -- where a pin's net has pins before, a strand of it comes in
@@ -35,6 +35,10 @@ module _ (t : ℕ) (top bottom : List ℕ) (fit : RowsFit top bottom) (enough : 
       (column t (getD top c 0) (getD bottom c 0) (gap t top bottom c) (action t top bottom c (gap t top bottom c)) (sound t top bottom fit enough c p))
       (lives c p)
 
+  -- after column n no net has a single strand
+  finished : Done (gap t top bottom (length top))
+  finished v n = invariant t top bottom fit enough (length top) (omega arith) .done v n (no-right top bottom v (omega (arith, fit .same)))
+
   -- AND THE COLUMNS ADDED, up to net v
   whole : (v : ℕ) → Drawn top bottom t (length top + count (remains (gap t top bottom (length top))) v)
       (drawn t top bottom (length top) ++ added t (gap t top bottom (length top)) v) (rest (gap t top bottom (length top)) v)
@@ -42,6 +46,7 @@ module _ (t : ℕ) (top bottom : List ℕ) (fit : RowsFit top bottom) (enough : 
       added-drawn (gap t top bottom (length top)) top bottom t (invariant t top bottom fit enough (length top) (omega arith) .size) (length top)
       (drawn t top bottom (length top))
       (columns-drawn (length top) (omega arith)) (λ x p. List·getD-eq-default top 0 p) (λ x p. List·getD-eq-default bottom 0 (omega (arith, fit .same)))
+      finished
 
   -- no net is left after 256
   over : (j : ℕ) → getD (rest (gap t top bottom (length top)) 256) j 0 ≡ 0
@@ -71,5 +76,4 @@ module _ (t : ℕ) (top bottom : List ℕ) (fit : RowsFit top bottom) (enough : 
   pub layout-width : width t top bottom ≤ length top + t / 2
   unfolding width
   layout-width =
-      let h = invariant t top bottom fit enough (length top) (omega arith) in
-      omega (arith, added-few (gap t top bottom (length top)) (λ v n. h .done v n (no-right top bottom v (omega (arith, fit .same)))) 256, h .size)
+      omega (arith, added-few (gap t top bottom (length top)) finished 256, invariant t top bottom fit enough (length top) (omega arith) .size)

@@ -15,7 +15,7 @@ use Rattle.sweep.specs.declared.Action.{Action}
 use Rattle.sweep.specs.Tracks.{after}
 use Rattle.sweep.proofs.Tracks.Strands.{Strand, strand-times}
 use Rattle.sweep.proofs.Tracks.After.{gifts, after-length, after-times, after-ended, times-more}
-use Rattle.sweep.proofs.Columns.Sound.{Sound, kept}
+use Rattle.sweep.proofs.Columns.Sound.{Sound, lands-out, kept, bottom-lands, top-lands}
 use Rattle.sweep.proofs.Gaps.Held.{Held}
 use Rattle.sweep.proofs.Gaps.Pins.{On, Off}
 
@@ -44,10 +44,8 @@ module _ {t : ℕ} (top bottom : List ℕ) (c : ℕ) (tr : List ℕ) (h : Held t
 
   -- a pin's net that does not end leaves
   out-here : (v : ℕ) → v ≢ 0 → HasPin top bottom v c → x .ended ≢ v → x .closed ≢ v → 0 < times v (after x tr)
-  out-here v n (inl e) m k =
-      let (y, g, p, q) = s .topOut (λ i. n (sym e ∙ i)) (λ i. m (i ∙ e)) (λ i. k (i ∙ e)) in subst (λ (z : ℕ). 0 < times z (after x tr)) e (strand-times g)
-  out-here v n (inr e) m k =
-      let (y, g, p, q) = s .bottomOut (λ i. n (sym e ∙ i)) (λ i. m (i ∙ e)) (λ i. k (i ∙ e)) in subst (λ (z : ℕ). 0 < times z (after x tr)) e (strand-times g)
+  out-here v n (inl e) m k = strand-times (lands-out m k (top-lands t (getD top c 0) (getD bottom c 0) tr x s v n e))
+  out-here v n (inr e) m k = strand-times (lands-out m k (bottom-lands t (getD top c 0) (getD bottom c 0) tr x s v n e))
 
   -- the strands of a net that does not end run on
   still : (v : ℕ) → v ≢ 0 → x .ended ≢ v → x .closed ≢ v → times v tr ≤ times v (after x tr)
