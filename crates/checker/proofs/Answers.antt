@@ -23,22 +23,24 @@ use Rattle.grid.proofs.Answers.{check-number, told, accepted-new}
 use Rattle.grid.proofs.Answers as answers
 use Rattle.checker.specs.declared.Checked.{Checked}
 use Rattle.checker.specs.declared.Checked.the-variants.{Passed}
-use Rattle.checker.specs.Check.{numberOf, placeOf, checkedBy, least, some, strange, mispinned, leavesLast, split}
-use Rattle.checker.specs.Check.{entriesRefused, drawingRefused, refused, place, checked}
-use Rattle.checker.specs.Working.{refusedAt, answerWith, entriesChecked, drawingChecked}
-use Rattle.checker.specs.Working.{PinTable}
-use Rattle.checker.specs.Working.{Within}
+use Rattle.checker.specs.Check.{numberOf, placeOf, faultColumn, faultRow, checkedBy, least, some, strange, mispinned, leavesLast, split, looseNet}
+use Rattle.checker.specs.Check.{entriesRefused, drawingRefused, refused, place, column, row, checked}
+use Rattle.checker.specs.declared.ends.Loose.{Loose}
+use Rattle.checker.specs.Working.{refusedAt, answerWith, entriesChecked, drawingChecked, PinTable, Within}
+use Rattle.checker.specs.Ends.{refusedLoose, LowestLoose}
 use Rattle.checker.proofs.Least.{least-all}
 use Rattle.checker.proofs.entries.Nets.{strange-not}
 
--- the number and the place of an answer made of them, where the place is 0 on acceptance
-made-of : (k p : ℕ) → (k ≡ 0 → p ≡ 0) → (numberOf (checkedBy k p) ≡ k) × (placeOf (checkedBy k p) ≡ p)
-made-of zero p z = (refl, sym (z refl))
-made-of (suc k) p z = (refl, refl)
+-- the numbers of an answer made of them, where all are 0 on acceptance
+made-of :
+    (k p c r : ℕ) → (k ≡ 0 → (p ≡ 0) × (c ≡ 0) × (r ≡ 0))
+    → (numberOf (checkedBy k p c r) ≡ k) × (placeOf (checkedBy k p c r) ≡ p) × (faultColumn (checkedBy k p c r) ≡ c) × (faultRow (checkedBy k p c r) ≡ r)
+made-of zero p c r z = let (a, b, d) = z refl in (refl, sym a, sym b, sym d)
+made-of (suc k) p c r z = (refl, refl, refl, refl)
 
 module _ (top bottom : List ℕ) (w t : ℕ) (D : List ℕ) where
-  -- only 13 to 16 have a place
-  pub no-place-else : (k : ℕ) → (k < 13) ⊎ (16 < k) → place top bottom w t D k ≡ 0
+  -- only 13 to 17 have a place
+  pub no-place-else : (k : ℕ) → (k < 13) ⊎ (17 < k) → place top bottom w t D k ≡ 0
   unfolding place
   no-place-else k o =
       rw (
@@ -46,38 +48,62 @@ module _ (top bottom : List ℕ) (w t : ℕ) (D : List ℕ) where
         ne-eqb k 14 (apart 14 (omega arith) (omega arith)),
         ne-eqb k 15 (apart 15 (omega arith) (omega arith)),
         ne-eqb k 16 (apart 16 (omega arith) (omega arith)),
+        ne-eqb k 17 (apart 17 (omega arith) (omega arith)),
       )
     where
-      apart : (j : ℕ) → 13 ≤ j → j ≤ 16 → k ≢ j
-      apart j a b e = ⊎-elim (λ (l : k < 13). omega (arith, e)) (λ (l : 16 < k). omega (arith, e)) o
+      apart : (j : ℕ) → 13 ≤ j → j ≤ 17 → k ≢ j
+      apart j a b e = ⊎-elim (λ (l : k < 13). omega (arith, e)) (λ (l : 17 < k). omega (arith, e)) o
 
-  -- the number and the place of the checker's answer
+  -- only 17 has a column and a row
+  pub no-point-else : (k : ℕ) → k ≢ 17 → (column top bottom w t D k ≡ 0) × (row top bottom w t D k ≡ 0)
+  unfolding column row
+  no-point-else k n = rw (ne-eqb k 17 n) (refl, refl)
+
+  -- the number of the checker's answer, its place, column and row
   pub check-parts :
       (numberOf (checked top bottom w t D) ≡ refused top bottom w t D)
       × (placeOf (checked top bottom w t D) ≡ place top bottom w t D (refused top bottom w t D))
+      × (faultColumn (checked top bottom w t D) ≡ column top bottom w t D (refused top bottom w t D))
+      × (faultRow (checked top bottom w t D) ≡ row top bottom w t D (refused top bottom w t D))
   unfolding checked
   check-parts =
-      made-of (refused top bottom w t D) (place top bottom w t D (refused top bottom w t D))
-      (λ e. no-place-else (refused top bottom w t D) (inl (omega arith)))
+      let k = refused top bottom w t D in
+      made-of k (place top bottom w t D k) (column top bottom w t D k) (row top bottom w t D k)
+      (λ e. let (c, r) = no-point-else k (omega arith) in (no-place-else k (inl (omega arith)), c, r))
 
   -- what the checker promises of them
   pub check-promise : (r : Checked) → r ≡ checked top bottom w t D
-      → (r ≡ checked top bottom w t D) × ((numberOf r ≡ refused top bottom w t D) × (placeOf r ≡ place top bottom w t D (numberOf r)))
+      → (r ≡ checked top bottom w t D) × ((numberOf r ≡ refused top bottom w t D) × ((placeOf r ≡ place top bottom w t D (numberOf r))
+      × ((faultColumn r ≡ column top bottom w t D (numberOf r)) × (faultRow r ≡ row top bottom w t D (numberOf r)))))
   check-promise r e =
-      let n = ap numberOf e ∙ check-parts .0 in
-      (e, (n, ap placeOf e ∙ check-parts .1 ∙ ap (λ (k : ℕ). place top bottom w t D k) (sym n)))
+      let (a, b, c, d) = check-parts in
+      let n = ap numberOf e ∙ a in (
+        e,
+        (
+          n,
+          (
+            ap placeOf e ∙ b ∙ ap (λ (k : ℕ). place top bottom w t D k) (sym n),
+            (
+              ap faultColumn e ∙ c ∙ ap (λ (k : ℕ). column top bottom w t D k) (sym n),
+              ap faultRow e ∙ d ∙ ap (λ (k : ℕ). row top bottom w t D k) (sym n),
+            ),
+          ),
+        ),
+      )
 
   -- one number, one answer
   same-answer : (k n : ℕ) (r : Checked) → n ≡ k → r ≡ answerWith top bottom w t D k → r ≡ answerWith top bottom w t D n
   same-answer k n r e is = is ∙ ap (λ (k : ℕ). answerWith top bottom w t D k) (sym e)
 
-  -- a refusal with the place of its number
-  at-place : (k n p : ℕ) (r : Checked) → n ≡ suc k → p ≡ place top bottom w t D (suc k) → r ≡ refusedAt (suc k) p → r ≡ answerWith top bottom w t D n
-  at-place k n p r e q is = same-answer (suc k) n r e (is ∙ ap (λ (p : ℕ). refusedAt (suc k) p) q)
+  -- a refusal with the place of its number, no loose end
+  at-place :
+      (k n p : ℕ) (r : Checked) → k ≢ 16 → n ≡ suc k → p ≡ place top bottom w t D (suc k) → r ≡ refusedAt (suc k) p
+      → r ≡ answerWith top bottom w t D n
+  at-place k n p r o e q is = same-answer (suc k) n r e (is ∙ rw (q, no-point-else (suc k) (omega arith) .0, no-point-else (suc k) (omega arith) .1))
 
   -- one with the place 0
   no-place : (k n : ℕ) (r : Checked) → k ≤ 11 → n ≡ suc k → r ≡ refusedAt (suc k) 0 → r ≡ answerWith top bottom w t D n
-  no-place k n r l e is = at-place k n 0 r e (sym (no-place-else (suc k) (inl (omega arith)))) is
+  no-place k n r l e is = at-place k n 0 r (omega arith) e (sym (no-place-else (suc k) (inl (omega arith)))) is
 
 module _ (top bottom : List ℕ) (w t : ℕ) (D : List ℕ) (r : Checked) where
   -- 10: too narrow
@@ -128,7 +154,7 @@ module _ (top bottom : List ℕ) (w t : ℕ) (D : List ℕ) (e : ℕ) (x : e ≡
   pub entry-at : (r : Checked) → e < length D → r ≡ refusedAt 13 e → r ≡ entriesChecked top bottom w t D
   unfolding entriesRefused place
   entry-at r l is =
-      at-place top bottom w t D 12 (entriesRefused top bottom w t D) e r (rw (some-found (length D) (strange top bottom D) e x l)) x is
+      at-place top bottom w t D 12 (entriesRefused top bottom w t D) e r (omega arith) (rw (some-found (length D) (strange top bottom D) e x l)) x is
 
   module _ (e′ : length D ≤ e) where
     -- the entries are nets, so they are at most 256
@@ -155,7 +181,7 @@ module _ (top bottom : List ℕ) (w t : ℕ) (D : List ℕ) (e : ℕ) (x : e ≡
       pub pin-at : (r : Checked) → p < length D → r ≡ refusedAt 14 p → r ≡ entriesChecked top bottom w t D
       unfolding entriesRefused place
       pin-at r l is =
-          at-place top bottom w t D 13 (entriesRefused top bottom w t D) p r
+          at-place top bottom w t D 13 (entriesRefused top bottom w t D) p r (omega arith)
           (rw (no-entry, some-found (length D) (mispinned top bottom t D) p y l)) y is
 
       module _ (p′ : length D ≤ p) (q : ℕ) (z : q ≡ least (length D) (leavesLast w t D)) where
@@ -167,7 +193,7 @@ module _ (top bottom : List ℕ) (w t : ℕ) (D : List ℕ) (e : ℕ) (x : e ≡
         pub last-at : (r : Checked) → q < length D → r ≡ refusedAt 15 q → r ≡ entriesChecked top bottom w t D
         unfolding entriesRefused place
         last-at r l is =
-            at-place top bottom w t D 14 (entriesRefused top bottom w t D) q r
+            at-place top bottom w t D 14 (entriesRefused top bottom w t D) q r (omega arith)
             (rw (no-entry, no-pin, some-found (length D) (leavesLast w t D) q z l)) z is
 
         module _ (q′ : length D ≤ q) (n : ℕ) (s : n ≡ least 257 (split t D)) where
@@ -179,15 +205,28 @@ module _ (top bottom : List ℕ) (w t : ℕ) (D : List ℕ) (e : ℕ) (x : e ≡
           pub pieces-at : (r : Checked) → n < 257 → r ≡ refusedAt 16 n → r ≡ entriesChecked top bottom w t D
           unfolding entriesRefused place
           pieces-at r l is =
-              at-place top bottom w t D 15 (entriesRefused top bottom w t D) n r
+              at-place top bottom w t D 15 (entriesRefused top bottom w t D) n r (omega arith)
               (rw (no-entry, no-pin, no-last, some-found 257 (split t D) n s l)) s is
 
-          -- none
-          pub all-passed : 257 ≤ n → Passed ≡ entriesChecked top bottom w t D
-          unfolding entriesRefused
-          all-passed l =
-              same-answer top bottom w t D 0 (entriesRefused top bottom w t D) Passed
-              (rw (no-entry, no-pin, no-last, none-found 257 (split t D) n s l)) refl
+          module _ (n′ : 257 ≤ n) (o : Loose) (f : LowestLoose w t D o) where
+            -- past 16
+            no-piece : some 257 (split t D) ≡ false
+            no-piece = none-found 257 (split t D) n s n′
+
+            -- 17
+            pub ends-at : o .net < 257 → refusedLoose o ≡ entriesChecked top bottom w t D
+            unfolding entriesRefused place column row
+            ends-at l =
+                same-answer top bottom w t D 17 (entriesRefused top bottom w t D) (refusedLoose o)
+                (rw (no-entry, no-pin, no-last, no-piece, some-found 257 (looseNet w t D) (o .net) (f .net) l))
+                (rw (f .column l, f .row l, f .net))
+
+            -- none
+            pub all-passed : 257 ≤ o .net → Passed ≡ entriesChecked top bottom w t D
+            unfolding entriesRefused
+            all-passed l =
+                same-answer top bottom w t D 0 (entriesRefused top bottom w t D) Passed
+                (rw (no-entry, no-pin, no-last, no-piece, none-found 257 (looseNet w t D) (o .net) (f .net) l)) refl
 
 -- the rows' numbers are at most 7
 pub rows-low : (top bottom : List ℕ) (most : ℕ) → rowsRefused top bottom most ≤ 7

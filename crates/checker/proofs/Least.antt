@@ -71,16 +71,32 @@ below-least (suc n) P k i l = go (λ z y. below-least n P k z y) (ltb (least n P
         by-cases (ℕ-discrete k n) (λ x. rw x o) (λ x. r (omega arith) (omega arith))
 
 -- if some number below n passes, the least passes, is below n, and is at most each that passes
-least-is :
+pub least-is :
     (n : ℕ) (P : ℕ → Bool) → some n P ≡ true
     → (P (least n P) ≡ true) × (least n P < n) × ((q : ℕ) → q < n → P q ≡ true → least n P ≤ q)
 least-is n P s =
     let l : least n P < n = ltb-true (least n P) n s in
     (least-passes n P l, l, λ q k e. by-cases (decLe (least n P) q) (λ z. z) (λ z. absurd (not-both e (below-least n P q k (omega arith)))))
 
+-- if each fails, none does
+pub none-of : (n : ℕ) (P : ℕ → Bool) → ((k : ℕ) → k < n → P k ≡ false) → some n P ≡ false
+none-of n P h = le-ltb (least n P) n (omega (arith, least-none n P h))
+
+-- and back
+pub of-none : (n : ℕ) (P : ℕ → Bool) → some n P ≡ false → (k : ℕ) → k < n → P k ≡ false
+of-none n P s = least-all n P (ltb-false (least n P) n s)
+
 -- if none does, none does
 some-none : (n : ℕ) (P : ℕ → Bool) → some n P ≡ false → (q : ℕ) → q < n → P q ≢ true
-some-none n P s q k e = not-both e (least-all n P (ltb-false (least n P) n s) q k)
+some-none n P s q k e = not-both e (of-none n P s q k)
+
+-- if one does, some does
+pub some-of : (n : ℕ) (P : ℕ → Bool) (q : ℕ) → q < n → P q ≡ true → some n P ≡ true
+some-of n P q k e = go (some n P) refl
+  where
+    go : (b : Bool) → some n P ≡ b → b ≡ true
+    go true i = refl
+    go false i = absurd (some-none n P i q k e)
 
 -- both in words W for the test
 module _ (n : ℕ) (P : ℕ → Bool) (W : ℕ → Type 0) (words : (q : ℕ) → q < n → (P q ≡ true) ↔ W q) where

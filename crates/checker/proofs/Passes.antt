@@ -2,32 +2,34 @@
 use Prim.Native.Nat.{ℕ, suc, _+_, _*_, _/_, _%_, _≤_, _<_}
 use mathlib.Core.Path.{_≡_, refl, sym, _∙_, ap}
 use mathlib.Core.Logic.{_≢_, _↔_, _⊎_, ⊎-elim, by-cases}
-use mathlib.Core.Bool.{Bool, false}
+use mathlib.Core.Bool.{false}
 use mathlib.Core.List.{List}
 use lib.ListN.{length, getD}
 use lib.Dec.{eqb, ltb}
 use native.Mathlib.Omega.{arith}
 use native.Mathlib.Decide.{decLe, decLt}
 use native.Mathlib.Nat.{mod-lt, div-add-mod', mul-le-mul-right}
-use Rattle.grid.specs.Channel.{pins, rowsRefused}
-use Rattle.grid.specs.Grid.{OnePiece, verticalOf, horizontalOf, Solution}
-use Rattle.grid.proofs.Tests.{eq-eqb, eqb-true, le-ltb, ltb-false, not-false, or-false, pick-past}
+use Rattle.grid.specs.Channel.{bit, pins, rowsRefused}
+use Rattle.grid.specs.Grid.{OnePiece, NoLooseEnd, verticalOf, horizontalOf, Wiring, Solution}
+use Rattle.grid.proofs.Tests.{eq-eqb, eqb-diff, eqb-true, le-ltb, ltb-false, not-false, or-false, pick-past}
 use Rattle.grid.proofs.Answers.{first-past}
 use Rattle.grid.proofs.Rows.{RowsFit, rows-fit}
 use Rattle.checker.specs.declared.Checked.the-variants.{Passed}
-use Rattle.checker.specs.Check.{numberOf, checkedBy, least, some, wrongWidth, manyTracks, wrongSize, strange, mispinned, leavesLast, split}
-use Rattle.checker.specs.Check.{entriesRefused, drawingRefused, refused, place, checked}
-use Rattle.pieces.specs.Labels.{netOf}
+use Rattle.checker.specs.Check.{numberOf, some, wrongWidth, manyTracks, wrongSize, strange, mispinned, leavesLast, split, looseNet}
+use Rattle.checker.specs.Check.{entriesRefused, drawingRefused, refused, checked}
+use Rattle.checker.specs.Working.{answerWith}
+use Rattle.pieces.specs.Labels.{netOf, leftFrom}
 use Rattle.grid.proofs.Drawings.Flat.{vert-at, horz-at, horz-out}
 use Rattle.pieces.proofs.Edges.{inside}
 use Rattle.pieces.proofs.Whole.{Edge, edge, edge-of}
 use Rattle.checker.proofs.Answers.{check-parts}
-use Rattle.checker.proofs.Least.{least-none, least-all}
+use Rattle.checker.proofs.Least.{none-of, of-none}
 use Rattle.checker.proofs.entries.Nets.{strange-not, not-strange}
 use Rattle.checker.proofs.Limits.{column-below}
 use Rattle.checker.proofs.entries.Pins.{pinned-at, at-pinned}
 use Rattle.checker.proofs.entries.Last.{last-zero, zero-last}
 use Rattle.checker.proofs.counting.Splits.{split-not, not-split}
+use Rattle.checker.proofs.ends.Tests.{not-loose, loose-not, no-loose, loose-none, edges-at}
 
 -- no refusal of the table applies
 record Fine (top bottom : List ℕ) (w t : ℕ) (D : List ℕ) : Type 0 where
@@ -39,11 +41,12 @@ record Fine (top bottom : List ℕ) (w t : ℕ) (D : List ℕ) : Type 0 where
   pin : some (length D) (mispinned top bottom t D) ≡ false
   last : some (length D) (leavesLast w t D) ≡ false
   piece : some 257 (split t D) ≡ false
+  ends : some 257 (looseNet w t D) ≡ false
 
 -- then the number is 0
 fine-zero : (top bottom : List ℕ) (w t : ℕ) (D : List ℕ) → Fine top bottom w t D → refused top bottom w t D ≡ 0
 unfolding refused drawingRefused entriesRefused
-fine-zero top bottom w t D f = rw (f .rows, f .width, f .tracks, f .size, f .entry, f .pin, f .last, f .piece)
+fine-zero top bottom w t D f = rw (f .rows, f .width, f .tracks, f .size, f .entry, f .pin, f .last, f .piece, f .ends)
 
 -- the numbers of the table are not 0
 positive : (k : ℕ) → suc k ≢ 0
@@ -61,18 +64,34 @@ zero-fine top bottom w t D e =
     let (f₅, e₅) = pick-past _ 14 _ 0 (positive 13) e₄ in
     let (f₆, e₆) = pick-past _ 15 _ 0 (positive 14) e₅ in
     let (f₇, e₇) = pick-past _ 16 _ 0 (positive 15) e₆ in
-    record { rows = f₀; width = f₁; tracks = f₂; size = f₃; entry = f₄; pin = f₅; last = f₆; piece = f₇ }
+    let (f₈, e₈) = pick-past _ 17 _ 0 (positive 16) e₇ in
+    record { rows = f₀; width = f₁; tracks = f₂; size = f₃; entry = f₄; pin = f₅; last = f₆; piece = f₇; ends = f₈ }
 
--- a number over 256 has no edge, of accepted rows and entries that are 0 or nets: it is one piece
-pub over-whole : (top bottom : List ℕ) (t : ℕ) (D : List ℕ) → RowsFit top bottom
-    → ((p : ℕ) → p < length D → (getD D p 0 ≡ 0) ⊎ (0 < pins top bottom (getD D p 0))) → (N : ℕ) → 256 < N
-    → OnePiece (verticalOf D t) (horizontalOf D t) N
-over-whole top bottom t D fit nets N l = record { linked = λ a b. absurd (no-edge (edge-of D t (omega arith) a)) }
+-- NUMBERS OVER 256, of accepted rows and entries that are 0 or nets
+module _
+    (top bottom : List ℕ) (t : ℕ) (D : List ℕ) (fit : RowsFit top bottom)
+    (nets : (p : ℕ) → p < length D → (getD D p 0 ≡ 0) ⊎ (0 < pins top bottom (getD D p 0))) (N : ℕ) (l : 256 < N)
   where
-    no-edge : {x y : ℕ} → Edge D t N x y → ⊥
-    no-edge (edge p a e) =
+    -- it is no entry
+    no-entry : (p : ℕ) → netOf D p ≢ N
+    no-entry p e =
         let s = fit .small (getD D p 0) (omega arith) in
         ⊎-elim (λ (z : getD D p 0 ≡ 0). omega arith) (λ (z : 0 < pins top bottom (getD D p 0)). omega arith) (nets p (inside D p (omega arith)))
+
+    -- so it is one piece
+    pub over-whole : OnePiece (verticalOf D t) (horizontalOf D t) N
+    over-whole = record { linked = λ a b. absurd (no-edge (edge-of D t (omega arith) a)) }
+      where
+        no-edge : {x y : ℕ} → Edge D t N x y → ⊥
+        no-edge (edge p a e) = no-entry p e
+
+    -- and has no loose end
+    pub over-ends : (w : ℕ) → NoLooseEnd (verticalOf D t) (horizontalOf D t) w t N
+    over-ends w x j i k e =
+        let none : (p : ℕ) → bit (eqb (netOf D p) N) ≡ 0 = λ p. eqb-diff (netOf D p) N (no-entry p) in
+        let b = x * (2 * t + 1) in
+        let q = leftFrom (length D) t x in
+        omega (arith, sym (edges-at D t N x j b q k refl refl) ∙ e, none (b + j), none (b + j + 1), none (q + j), none (b + t + 1 + j))
 
 module _ (top bottom : List ℕ) (w t : ℕ) (D : List ℕ) where
   module _ (f : Fine top bottom w t D) where
@@ -83,7 +102,7 @@ module _ (top bottom : List ℕ) (w t : ℕ) (D : List ℕ) where
     nets-are : (p : ℕ) → p < length D → (getD D p 0 ≡ 0) ⊎ (0 < pins top bottom (getD D p 0))
     nets-are p l =
         strange-not top bottom D p
-        (least-all (length D) (strange top bottom D) (ltb-false (least (length D) (strange top bottom D)) (length D) (f .entry)) p l)
+        (of-none (length D) (strange top bottom D) (f .entry) p l)
 
     -- the pins of column x are right
     pins-are :
@@ -91,7 +110,7 @@ module _ (top bottom : List ℕ) (w t : ℕ) (D : List ℕ) where
         → (i ≡ 0 → getD D (x * (2 * t + 1) + i) 0 ≡ getD bottom x 0) × (i ≡ t → getD D (x * (2 * t + 1) + i) 0 ≡ getD top x 0)
     pins-are x i l k =
         at-pinned top bottom t D (x * (2 * t + 1) + i) x i k refl
-        (least-all (length D) (mispinned top bottom t D) (ltb-false (least (length D) (mispinned top bottom t D)) (length D) (f .pin))
+        (of-none (length D) (mispinned top bottom t D) (f .pin)
         (x * (2 * t + 1) + i) (omega (arith, size-is, mul-le-mul-right (2 * t + 1) l)))
 
     -- the last column has no horizontal edge
@@ -102,7 +121,7 @@ module _ (top bottom : List ℕ) (w t : ℕ) (D : List ℕ) where
         (λ l.
         horz-at D t x j l
         ∙ last-zero w t D x j e l
-        (least-all (length D) (leavesLast w t D) (ltb-false (least (length D) (leavesLast w t D)) (length D) (f .last))
+        (of-none (length D) (leavesLast w t D) (f .last)
         (x * (2 * t + 1) + t + 1 + j) (omega (arith, size-is))))
         (λ l. horz-out D t x j (omega arith))
 
@@ -110,8 +129,15 @@ module _ (top bottom : List ℕ) (w t : ℕ) (D : List ℕ) where
     whole : (N : ℕ) → N ≢ 0 → OnePiece (verticalOf D t) (horizontalOf D t) N
     whole N n =
         by-cases (decLe N 256)
-        (λ l. split-not t D N n (least-all 257 (split t D) (ltb-false (least 257 (split t D)) 257 (f .piece)) N (omega arith)))
+        (λ l. split-not t D N n (of-none 257 (split t D) (f .piece) N (omega arith)))
         (λ l. over-whole top bottom t D (rows-fit top bottom (f .rows)) nets-are N (omega arith))
+
+    -- no net has a loose end
+    no-ends : (N : ℕ) → N ≢ 0 → NoLooseEnd (verticalOf D t) (horizontalOf D t) w t N
+    no-ends N n x j l k =
+        by-cases (decLe N 256)
+        (λ m. loose-not t D N x j n (loose-none w t D N (of-none 257 (looseNet w t D) (f .ends) N (omega arith)) x j l k))
+        (λ m. over-ends top bottom t D (rows-fit top bottom (f .rows)) nets-are N (omega arith) w x j l k)
 
     -- so the drawing is a solution within the limits
     fine-solution : (rowsRefused top bottom 256 ≡ 0) × (w ≤ 511) × (t ≤ 511) × Solution top bottom w t D
@@ -121,20 +147,23 @@ module _ (top bottom : List ℕ) (w t : ℕ) (D : List ℕ) where
           ltb-false 511 w few,
           ltb-false 511 t (f .tracks),
           record {
-            size = size-is;
-            covers = ltb-false w (length top) narrow;
-            nets = nets-are;
-            bottomPins = λ x l. vert-at D t x 0 (omega arith) ∙ pins-are x 0 l (omega arith) .0 refl;
-            topPins = λ x l. vert-at D t x t (omega arith) ∙ pins-are x t l (omega arith) .1 refl;
-            last = last-is;
-            pieces = whole;
+            wiring = record {
+              size = size-is;
+              covers = ltb-false w (length top) narrow;
+              nets = nets-are;
+              bottomPins = λ x l. vert-at D t x 0 (omega arith) ∙ pins-are x 0 l (omega arith) .0 refl;
+              topPins = λ x l. vert-at D t x t (omega arith) ∙ pins-are x t l (omega arith) .1 refl;
+              last = last-is;
+              pieces = whole;
+            };
+            ends = no-ends;
           },
         )
 
-  module _ (S : Solution top bottom w t D) where
-    -- where no number below n passes a test the search finds none
-    no-low : (n : ℕ) (P : ℕ → Bool) → ((k : ℕ) → k < n → P k ≡ false) → some n P ≡ false
-    no-low n P h = le-ltb (least n P) n (omega (arith, least-none n P h))
+  module _ (s : Solution top bottom w t D) where
+    -- without its ends
+    abbrev S : Wiring top bottom w t D
+    S = s .wiring
 
     -- every position has the pins of its column
     all-pinned : (p : ℕ) → p < length D → mispinned top bottom t D p ≡ false
@@ -154,10 +183,11 @@ module _ (top bottom : List ℕ) (w t : ℕ) (D : List ℕ) where
       width = rw (le-ltb w (length top) (S .covers)) (le-ltb 511 w a);
       tracks = le-ltb 511 t b;
       size = rw (eq-eqb (length D) (w * (2 * t + 1)) (S .size));
-      entry = no-low (length D) (strange top bottom D) (λ p l. not-strange top bottom D p (S .nets p l));
-      pin = no-low (length D) (mispinned top bottom t D) all-pinned;
-      last = no-low (length D) (leavesLast w t D) (λ p l. zero-last w t D (λ x j e k. sym (horz-at D t x j k) ∙ S .last x j e) p);
-      piece = no-low 257 (split t D) (λ N l. not-split t D N (S .pieces N));
+      entry = none-of (length D) (strange top bottom D) (λ p l. not-strange top bottom D p (S .nets p l));
+      pin = none-of (length D) (mispinned top bottom t D) all-pinned;
+      last = none-of (length D) (leavesLast w t D) (λ p l. zero-last w t D (λ x j e k. sym (horz-at D t x j k) ∙ S .last x j e) p);
+      piece = none-of 257 (split t D) (λ N l. not-split t D N (S .pieces N));
+      ends = none-of 257 (looseNet w t D) (λ N l. no-loose w t D N (λ x j i k. not-loose t D N x j (λ n. s .ends N n x j i k)));
     }
 
   -- the number is 0 precisely when the rows are accepted, w and t are at most 511 and the drawing is a solution
@@ -173,7 +203,7 @@ module _ (top bottom : List ℕ) (w t : ℕ) (D : List ℕ) where
   passed-number = (
     λ e.
         let z : refused top bottom w t D ≡ 0 = sym (check-parts top bottom w t D .0) ∙ e in
-        ap (λ (k : ℕ). checkedBy k (place top bottom w t D k)) z,
+        ap (λ (k : ℕ). answerWith top bottom w t D k) z,
     λ e. ap numberOf e,
   )
 

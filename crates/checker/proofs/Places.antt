@@ -1,5 +1,5 @@
--- The checker's tests of refusals 13 to 16 in the words of `Faults`: what each says of an entry's position, or of a net. Assumes nothing.
-use Prim.Native.Nat.{ℕ, suc, _+_, _*_, _-_, _/_, _%_, _<_}
+-- The checker's tests of refusals 13 to 17 in the words of `Faults`: what each says of an entry's position, or of a net. Assumes nothing.
+use Prim.Native.Nat.{ℕ, suc, _+_, _*_, _-_, _/_, _%_, _≤_, _<_}
 use mathlib.Core.Path.{_≡_, refl, sym, _∙_, ap}
 use mathlib.Core.Logic.{_≢_, _↔_, _⊎_, inl, inr, ⊎-elim}
 use mathlib.Core.Bool.{true, not, _&&_}
@@ -11,14 +11,16 @@ use native.Mathlib.Nat.{mod-lt, div-add-mod'}
 use Rattle.grid.specs.Channel.{pins}
 use Rattle.grid.specs.Grid.{verticalOf, horizontalOf}
 use Rattle.grid.proofs.Tests.{eq-eqb, ne-eqb, eqb-true, eqb-false, ltb-true, not-true, and-true, not-both}
-use Rattle.checker.specs.Faults.{Strange, PinWrong, LeavesLast, Split}
-use Rattle.checker.specs.Check.{strange, mispinned, leavesLast, split}
+use Rattle.checker.specs.Faults.{Strange, PinWrong, LeavesLast, Split, LooseEnd, FirstLoose}
+use Rattle.checker.specs.Check.{strange, mispinned, leavesLast, split, looseAt, looseIn, looseNet, looseColumn, looseTrack}
 use Rattle.pieces.specs.Labels.{netOf}
 use Rattle.grid.proofs.Drawings.Flat.{vert-at, horz-at}
 use Rattle.checker.proofs.Limits.{column-below}
 use Rattle.checker.proofs.entries.Pins.{pin-low, pin-high, wrong-pin}
 use Rattle.checker.proofs.entries.Last.{last-edge-in}
 use Rattle.checker.proofs.counting.Splits.{not-split, is-split}
+use Rattle.checker.proofs.Least.{some-of, least-is}
+use Rattle.checker.proofs.ends.Tests.{is-loose, loose-is, some-loose}
 
 -- 13
 pub strange-at : (top bottom D : List ℕ) (p : ℕ) → (strange top bottom D p ≡ true) ↔ Strange top bottom D p
@@ -91,3 +93,42 @@ split-at t D N = (
   ),
   λ (n, h). is-split t D N n h,
 )
+
+-- 17
+module _ (w t : ℕ) (D : List ℕ) (N : ℕ) where
+  -- its first point, by the test
+  module _ (h : looseNet w t D N ≡ true) where
+    first-column-is :
+        (looseIn t D N (looseColumn w t D N) ≡ true) × (looseColumn w t D N < w) × ((x : ℕ) → x < w → looseIn t D N x ≡ true → looseColumn w t D N ≤ x)
+    unfolding looseNet looseColumn
+    first-column-is = least-is w (looseIn t D N) h
+
+    first-track-is :
+        (looseAt t D N (looseColumn w t D N) (looseTrack w t D N) ≡ true) × (looseTrack w t D N < t)
+        × ((j : ℕ) → j < t → looseAt t D N (looseColumn w t D N) j ≡ true → looseTrack w t D N ≤ j)
+    unfolding looseIn looseTrack
+    first-track-is = least-is t (looseAt t D N (looseColumn w t D N)) (first-column-is .0)
+
+    pub loose-first : FirstLoose w t D N (suc (looseColumn w t D N)) (suc (looseTrack w t D N))
+    unfolding looseIn
+    loose-first =
+        let (e, l, c) = first-column-is in
+        let (o, k, d) = first-track-is in
+        let (n, one) = loose-is t D N (looseColumn w t D N) (looseTrack w t D N) o in
+        record {
+          x = looseColumn w t D N;
+          j = looseTrack w t D N;
+          columnIs = refl;
+          rowIs = refl;
+          loose = (n, l, k, one);
+          first = λ x′ j′ (m, a, b, i) before.
+              let z = is-loose t D N x′ j′ m i in
+              ⊎-elim (λ (p : x′ < looseColumn w t D N). omega (arith, p, c x′ a (some-of t (looseAt t D N x′) j′ b z)))
+              (λ (p : (x′ ≡ looseColumn w t D N) × (j′ < looseTrack w t D N)). omega (arith, p .1, d j′ b (rw (p .0) at z))) before;
+        }
+
+  pub loose-at : (looseNet w t D N ≡ true) ↔ LooseEnd w t D N
+  loose-at = (
+    λ h. let f = loose-first h in (f .x, f .j, f .loose),
+    λ (x, j, (n, l, k, e)). some-loose w t D N x j l k (is-loose t D N x j n e),
+  )

@@ -1,5 +1,6 @@
--- Document 01, "Refused, by place": the checker's number, "Checked from the top down", and its place, for the rows, the width w, the number of tracks t
--- and the lent layout D. A position p is counted from 0; it lies in column p / (2t + 1), counted from 0, and is entry p % (2t + 1) of it.
+-- Document 01, "Refused, by place", and document 02, Job 1: the checker's number, "Checked from the top down", its place, column and row, for the rows,
+-- the width w, the number of tracks t and the lent layout D. A position p is counted from 0; it lies in column p / (2t + 1), counted from 0, and is entry
+-- p % (2t + 1) of it.
 use Prim.Native.Nat.{ℕ, zero, suc, _+_, _*_, _/_, _%_}
 use mathlib.Core.Bool.{Bool, true, false, not, _&&_, _||_}
 use mathlib.Core.List.{List}
@@ -8,12 +9,12 @@ use lib.Dec.{eqb, ltb}
 use native.Mathlib.Omega.{arith}
 use Rattle.grid.specs.Channel.{pick, pins, rowsRefused}
 use Rattle.grid.specs.Refusals.{firstRefusal}
-use Rattle.grid.specs.Grid.{verticalOf, horizontalOf, OnePiece}
+use Rattle.grid.specs.Grid.{verticalOf, horizontalOf, OnePiece, edgesAt}
 use Rattle.pieces.proofs.Whole.{whole?}
 use Rattle.checker.specs.declared.Checked.{Checked}
 use Rattle.checker.specs.declared.Checked.the-variants.{Passed, Refused}
 
--- THE ANSWER'S NUMBER AND PLACE
+-- THE ANSWER'S NUMBERS
 -- "a definition gives this paper's number and values for each of the enum's cases": the number, "The number on acceptance is 0."
 abbrev pub numberOf : Checked → ℕ
 numberOf Passed = 0
@@ -24,10 +25,20 @@ abbrev pub placeOf : Checked → ℕ
 placeOf Passed = 0
 placeOf (Refused f) = f .place
 
--- the answer with a number and a place: "A refusal returns its number and zeros for … every other figure but the place."
-abbrev pub checkedBy : (number place : ℕ) → Checked
-checkedBy zero place = Passed
-checkedBy (suc k) place = Refused (record { number = suc k; place = place })
+-- "two further numbers give the column and row … and are 0 in every other case": the column
+abbrev pub faultColumn : Checked → ℕ
+faultColumn Passed = 0
+faultColumn (Refused f) = f .column
+
+-- and the row
+abbrev pub faultRow : Checked → ℕ
+faultRow Passed = 0
+faultRow (Refused f) = f .row
+
+-- the answer with a number, a place, a column and a row: "A refusal returns its number and zeros for … every other figure but the place."
+abbrev pub checkedBy : (number place column row : ℕ) → Checked
+checkedBy zero place column row = Passed
+checkedBy (suc k) place column row = Refused (record { number = suc k; place = place; column = column; row = row })
 
 -- THE LEAST
 -- "the lowest entry position", "the lowest net number": the least number below n that passes a test, else n
@@ -84,18 +95,39 @@ unfoldable pub split : (t : ℕ) (D : List ℕ) (N : ℕ) → Bool
 split t D zero = false
 split t D (suc N) = isNo {A = OnePiece (verticalOf D t) (horizontalOf D t) (suc N)} (whole? D t (suc N) (omega arith))
 
+-- 17: "loose end", of net N at the grid point of column x, counted from 0, on track j + 1: not "no edge or at least two"; 0 is no net
+unfoldable pub looseAt : (t : ℕ) (D : List ℕ) (N x j : ℕ) → Bool
+looseAt t D N x j = not (eqb N 0) && eqb (edgesAt (verticalOf D t) (horizontalOf D t) N x j) 1
+
+-- at some point of column x "on rows 1 to t"
+unfoldable pub looseIn : (t : ℕ) (D : List ℕ) (N x : ℕ) → Bool
+looseIn t D N x = some t (looseAt t D N x)
+
+-- in some column
+unfoldable pub looseNet : (w t : ℕ) (D : List ℕ) (N : ℕ) → Bool
+looseNet w t D N = some w (looseIn t D N)
+
+-- "that net's first such point, by column and then row": its column, counted from 0
+unfoldable pub looseColumn : (w t : ℕ) (D : List ℕ) (N : ℕ) → ℕ
+looseColumn w t D N = least w (looseIn t D N)
+
+-- and its track, counted from 0
+unfoldable pub looseTrack : (w t : ℕ) (D : List ℕ) (N : ℕ) → ℕ
+looseTrack w t D N = least t (looseAt t D N (looseColumn w t D N))
+
 -- WHAT IT ANSWERS
 module _ (top bottom : List ℕ) (w t : ℕ) (D : List ℕ) where
-  -- the number, "Checked from the top down": of the entries and the pieces, 13 to 16
+  -- the number, "Checked from the top down": of the entries, the pieces and the ends, 13 to 17; "17: … checked after 16"
   unfoldable pub entriesRefused : ℕ
   entriesRefused =
       pick (some (length D) (strange top bottom D)) 13
       (pick (some (length D) (mispinned top bottom t D)) 14
       (pick (some (length D) (leavesLast w t D)) 15
       (pick (some 257 (split t D)) 16
-      0)))
+      (pick (some 257 (looseNet w t D)) 17
+      0))))
 
-  -- of the drawing, 10 to 16
+  -- of the drawing, 10 to 17
   unfoldable pub drawingRefused : ℕ
   drawingRefused =
       pick (wrongWidth top w) 10
@@ -108,15 +140,24 @@ module _ (top bottom : List ℕ) (w t : ℕ) (D : List ℕ) where
   refused = firstRefusal (rowsRefused top bottom 256) drawingRefused
 
   -- the place that goes with a number: "For 13 to 15 the checker adds the lowest entry position, from 0; for 16 the lowest net number; its place is 0
-  -- otherwise."
+  -- otherwise."; for 17 "The place is the lowest net number with a loose end"
   unfoldable pub place : (number : ℕ) → ℕ
   place k =
       pick (eqb k 13) (least (length D) (strange top bottom D))
       (pick (eqb k 14) (least (length D) (mispinned top bottom t D))
       (pick (eqb k 15) (least (length D) (leavesLast w t D))
       (pick (eqb k 16) (least 257 (split t D))
-      0)))
+      (pick (eqb k 17) (least 257 (looseNet w t D))
+      0))))
 
-  -- the checker's answer, by its number and the place that goes with it
+  -- the column that goes with it: of that net's first loose end, counted from 1
+  unfoldable pub column : (number : ℕ) → ℕ
+  column k = pick (eqb k 17) (suc (looseColumn w t D (place k))) 0
+
+  -- and the row: track 1 is row 1
+  unfoldable pub row : (number : ℕ) → ℕ
+  row k = pick (eqb k 17) (suc (looseTrack w t D (place k))) 0
+
+  -- the checker's answer, by its number and what goes with it
   unfoldable pub checked : Checked
-  checked = checkedBy refused (place refused)
+  checked = checkedBy refused (place refused) (column refused) (row refused)

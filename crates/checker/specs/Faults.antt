@@ -1,12 +1,12 @@
--- Document 01, "Refused, by place", 13 to 16: the faults of a drawing in words over its grid. The checker's answer is defined by tests, in `Check`; that
--- they say these words is shown in proofs/Places. A position is counted from 0, a column here from 0.
+-- Document 01, "Refused, by place", 13 to 16, and document 02, Job 1, 17: the faults of a drawing in words over its grid. The checker's answer is defined
+-- by tests, in `Check`; that they say these words is shown in proofs/Places. A position is counted from 0, a column x here from 0.
 use Prim.Native.Nat.{ℕ, suc, _+_, _*_, _<_}
 use mathlib.Core.Path.{_≡_}
 use mathlib.Core.Logic.{_≢_, _⊎_}
 use mathlib.Core.List.{List}
 use lib.ListN.{getD}
 use Rattle.grid.specs.Channel.{pins}
-use Rattle.grid.specs.Grid.{verticalOf, horizontalOf, OnePiece}
+use Rattle.grid.specs.Grid.{verticalOf, horizontalOf, OnePiece, edgesAt}
 
 -- 13: "entry neither 0 nor a net"
 abbrev pub Strange : (top bottom D : List ℕ) (p : ℕ) → Type 0
@@ -26,3 +26,24 @@ LeavesLast w t D p = (x : ℕ) × (j : ℕ) × (suc x ≡ w) × (j < t) × (p �
 -- 16: "a net in more than one piece"
 abbrev pub Split : (t : ℕ) (D : List ℕ) (N : ℕ) → Type 0
 Split t D N = (N ≢ 0) × (OnePiece (verticalOf D t) (horizontalOf D t) N → ⊥)
+
+-- 17: "loose end", of net N at the grid point of column x on track j + 1
+abbrev pub LooseAt : (w t : ℕ) (D : List ℕ) (N x j : ℕ) → Type 0
+LooseAt w t D N x j = (N ≢ 0) × (x < w) × (j < t) × (edgesAt (verticalOf D t) (horizontalOf D t) N x j ≡ 1)
+
+-- "a loose end" of net N
+abbrev pub LooseEnd : (w t : ℕ) (D : List ℕ) (N : ℕ) → Type 0
+LooseEnd w t D N = (x : ℕ) × (j : ℕ) × LooseAt w t D N x j
+
+-- "by column and then row": the point of column x on track j + 1 comes before that of column x′ on track j′ + 1
+abbrev pub Before : (x j x′ j′ : ℕ) → Type 0
+Before x j x′ j′ = (x < x′) ⊎ ((x ≡ x′) × (j < j′))
+
+-- "the column and row of that net's first such point", the column counted from 1
+pub record FirstLoose (w t : ℕ) (D : List ℕ) (N column row : ℕ) : Type 0 where
+  pub x : ℕ
+  pub j : ℕ
+  pub columnIs : column ≡ suc x
+  pub rowIs : row ≡ suc j
+  pub loose : LooseAt w t D N x j
+  pub first : (x′ j′ : ℕ) → LooseAt w t D N x′ j′ → Before x′ j′ x j → ⊥

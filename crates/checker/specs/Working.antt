@@ -11,17 +11,17 @@ use Rattle.grid.specs.Working.{ByNet}
 use Rattle.pieces.specs.Labels.{netOf, sub, afterLeft, afterUp, afterRight, afterPoints, leftFrom, labelled, tally, roots, lost}
 use Rattle.checker.specs.declared.Checked.{Checked}
 use Rattle.checker.specs.declared.Checked.the-variants.{Refused}
-use Rattle.checker.specs.Check.{checkedBy, entriesRefused, drawingRefused, place}
+use Rattle.checker.specs.Check.{checkedBy, entriesRefused, drawingRefused, place, column, row}
 
 -- ANSWERS
--- the refusal with a number and a place
+-- the refusal with a number and a place, no loose end
 abbrev pub refusedAt : (number place : ℕ) → Checked
-refusedAt k p = Refused (record { number = k; place = p })
+refusedAt k p = Refused (record { number = k; place = p; column = 0; row = 0 })
 
 module _ (top bottom : List ℕ) (w t : ℕ) (D : List ℕ) where
   -- the answer with a number
   abbrev pub answerWith : (number : ℕ) → Checked
-  answerWith k = checkedBy k (place top bottom w t D k)
+  answerWith k = checkedBy k (place top bottom w t D k) (column top bottom w t D k) (row top bottom w t D k)
 
   -- the answer on the entries of a drawing of the right size
   abbrev pub entriesChecked : Checked

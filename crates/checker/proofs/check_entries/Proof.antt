@@ -1,5 +1,6 @@
 -- `checker::check_entries` meets its contract: the answer at each of its ways out.
-use Rattle.checker.proofs.Answers.{entry-at, within, pin-at, last-at, pieces-at, all-passed}
+use Rattle.checker.proofs.Answers.{entry-at, within, pin-at, last-at, pieces-at, ends-at, all-passed}
+use mathlib.Core.Path.{_∙_}
 use borrow.Author.Needs.{needs}
 use Rattle.checker.proofs.check_entries.Statement.{statement}
 use Rattle.checker.proofs.check_entries.Tie as tie
@@ -44,8 +45,8 @@ returns-3 c =
     (c .before .before .before .before .before .if1 .left) _ (c .before .before .before .before .find-pin .ensures)
     (c .before .before .before .if2 .left) _ (c .before .before .find-last .ensures) _ (c .before .if3 .taken) (c .refuse3 .ensures)
 
-find-split-requires : tie.Need-find-split-requires
-find-split-requires c κs =
+faulty-nets-requires : tie.Need-faulty-nets-requires
+faulty-nets-requires c κs =
     let start = c .before .before .before .before .before .before .before .before .before in
     let a = start .args in
     within (a .top .now) (a .bottom .now) (a .w) (a .t) (a .layout .now) _ (c .before .before .before .before .before .find-strange .ensures)
@@ -62,16 +63,37 @@ returns-4 c =
     (c .before .before .before .before .before .before .before .before .find-strange .ensures)
     (c .before .before .before .before .before .before .before .if1 .left) _ (c .before .before .before .before .before .before .find-pin .ensures)
     (c .before .before .before .before .before .if2 .left) _ (c .before .before .before .before .find-last .ensures)
-    (c .before .before .before .if3 .left) _ (c .before .before .find-split .ensures) _ (c .before .if4 .taken) (c .refuse4 .ensures)
+    (c .before .before .before .if3 .left) _ (c .before .before .faulty-nets .ensures .0) _ (c .before .if4 .taken) (c .refuse4 .ensures)
+
+refuse-end-requires : tie.Need-refuse-end-requires
+refuse-end-requires c κs = search needs
 
 returns-5 : tie.Need-returns-5
 returns-5 c =
-    let start = c .before .before .before .before .before .before .before .before .before .before .before in
+    let past = c .before .before .before .before in
+    let nets = past .before in
+    let lasts = nets .before in
+    let pins = lasts .before .before in
+    let entries = pins .before .before in
+    let start = entries .before .before .before .before .before in
     let a = start .args in
-    all-passed (a .top .now) (a .bottom .now) (a .w) (a .t) (a .layout .now) _
-    (c .before .before .before .before .before .before .before .find-strange .ensures) (c .before .before .before .before .before .before .if1 .left)
-    _ (c .before .before .before .before .before .find-pin .ensures) (c .before .before .before .before .if2 .left) _
-    (c .before .before .before .find-last .ensures) (c .before .before .if3 .left) _ (c .before .find-split .ensures) (c .if4 .left)
+    c .refuse-end .ensures
+    ∙ ends-at (a .top .now) (a .bottom .now) (a .w) (a .t) (a .layout .now) _ (entries .before .find-strange .ensures) (entries .if1 .left) _
+    (pins .before .find-pin .ensures) (pins .if2 .left) _ (lasts .before .find-last .ensures) (lasts .if3 .left) _ (nets .faulty-nets .ensures .0)
+    (past .if4 .left) _ (nets .faulty-nets .ensures .1) (c .before .if5 .taken)
+
+returns-6 : tie.Need-returns-6
+returns-6 c =
+    let past = c .before .before .before in
+    let nets = past .before in
+    let lasts = nets .before in
+    let pins = lasts .before .before in
+    let entries = pins .before .before in
+    let start = entries .before .before .before .before .before in
+    let a = start .args in
+    all-passed (a .top .now) (a .bottom .now) (a .w) (a .t) (a .layout .now) _ (entries .before .find-strange .ensures) (entries .if1 .left) _
+    (pins .before .find-pin .ensures) (pins .if2 .left) _ (lasts .before .find-last .ensures) (lasts .if3 .left) _ (nets .faulty-nets .ensures .0)
+    (past .if4 .left) _ (nets .faulty-nets .ensures .1) (c .if5 .left)
 
 pub check-entries-spec : {M : Type 1} → statement M
 check-entries-spec =
@@ -86,7 +108,9 @@ check-entries-spec =
     find-last-requires
     refuse-requires-3
     returns-3
-    find-split-requires
+    faulty-nets-requires
     refuse-requires-4
     returns-4
-    returns-5)
+    refuse-end-requires
+    returns-5
+    returns-6)

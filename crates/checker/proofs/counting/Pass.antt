@@ -13,7 +13,7 @@ use Rattle.pieces.proofs.Whole.{labels, pieces, exact}
 use Rattle.checker.specs.Working.{Within, Entry, ColumnAt, seen, Labs, PerNet, PieceCounted, CountedTo, CountedAll, State}
 use Rattle.checker.proofs.Limits.{index-of}
 use Rattle.checker.proofs.counting.Counts.{counted-start, counted-first, counted-last}
-use Rattle.checker.proofs.counting.Positions.{left-from-zero, left-from-suc, room, short}
+use Rattle.checker.proofs.counting.Positions.{room, short, NextColumn, next-start, next-small, next-after}
 
 -- the labels before column x
 seen-start : (D : List ℕ) (t b q x : ℕ) → b ≡ x * (2 * t + 1) → seen D t b q 0 ≡ labelled (netOf D) (length D) t x
@@ -56,9 +56,7 @@ end-state D t b q j vl lab begun joined s e =
 
 -- x columns are passed
 pub record ColumnsPassed (D : List ℕ) (w t x b q : ℕ) (lab begun joined : List ℕ) : Type 0 where
-  pub below : x ≤ w
-  pub base : b ≡ x * (2 * t + 1)
-  pub before : q ≡ leftFrom (length D) t x
+  pub next : NextColumn D w t x b q
   pub labs : Labs D t b q 0 (labelled (netOf D) (length D) t x) lab
   pub counted : CountedTo D (labelled (netOf D) (length D) t x) b begun joined
 
@@ -68,9 +66,7 @@ pub pass-start :
     → ColumnsPassed D w t 0 0 (length D) lab begun joined
 unfolding labelled
 pass-start D w t lab begun joined l x y = record {
-  below = omega arith;
-  base = omega arith;
-  before = sym (left-from-zero (length D) t);
+  next = next-start D w t;
   labs = record {
     long = l;
     done = λ k i. absurd (omega arith);
@@ -81,14 +77,12 @@ pass-start D w t lab begun joined l x y = record {
 
 module _ (D : List ℕ) (w t x b q : ℕ) (lab begun joined : List ℕ) (d : Within D w t) (p : ColumnsPassed D w t x b q lab begun joined) where
   -- the next column can be taken
-  pub pass-column : x < w → ColumnAt D t b q × (Labs D t b q 0 (seen D t b q 0) lab × CountedTo D (seen D t b q 0) b begun joined)
-  pass-column l =
-      let e = seen-start D t b q x (p .base) in
-      (record { w = w; x = x; within = d; below = l; base = p .base; before = p .before }, rw e (p .labs, p .counted))
+  pub pass-column : Labs D t b q 0 (seen D t b q 0) lab × CountedTo D (seen D t b q 0) b begun joined
+  pass-column = let e = seen-start D t b q x (p .next .base) in rw e (p .labs, p .counted)
 
   -- its positions are small
   pub pass-small : x < w → b + 2 * t + 1 ≤ 1000000
-  pass-small l = let C = pass-column l .0 in omega (arith, room D t b q C, short D t b q C)
+  pass-small = next-small D w t x b q d (p .next)
 
   -- and it is passed
   pub pass-next :
@@ -96,12 +90,11 @@ module _ (D : List ℕ) (w t x b q : ℕ) (lab begun joined : List ℕ) (d : Wit
       → CountedTo D (seen D t b q t) (b + 2 * t + 1) begun′ joined′
       → ColumnsPassed D w t (x + 1) (b + 2 * t + 1) (b + t + 1) lab′ begun′ joined′
   pass-next lab′ begun′ joined′ l L c =
-      let e = seen-end D t b q x (p .base) (p .before) in
+      let e = seen-end D t b q x (p .next .base) (p .next .before) in
+      let n = next-after D w t x b q d (p .next) l in
       rw (add-one x)
       (record {
-        below = l;
-        base = omega (arith, p .base);
-        before = sym (left-from-suc (length D) t x ∙ ap (λ (k : ℕ). k + t + 1) (sym (p .base)));
+        next = rw (add-one x) at n;
         labs = record {
           long = L .long;
           done = λ k i. absurd (omega arith);
@@ -113,8 +106,8 @@ module _ (D : List ℕ) (w t x b q : ℕ) (lab begun joined : List ℕ) (d : Wit
   -- until all are
   pub pass-end : w ≤ x → CountedAll D w t begun joined
   pass-end l =
-      let e : x ≡ w = omega (arith, p .below) in
-      let o : b ≡ length D = rw e at (p .base) ∙ sym (d .size) in
+      let e : x ≡ w = omega (arith, p .next .below) in
+      let o : b ≡ length D = rw e at (p .next .base) ∙ sym (d .size) in
       rw (e, o) at (p .counted)
 
 -- at most one piece more than the joins is a net in one piece

@@ -1,9 +1,10 @@
 -- A column in its drawing: where its edges stand, and that positions and nets are small.
 use Prim.Native.Nat.{ℕ, zero, suc, _+_, _*_, _/_, _≤_, _<_}
-use mathlib.Core.Path.{_≡_, refl}
+use mathlib.Core.Path.{_≡_, refl, sym, _∙_, ap}
 use mathlib.Core.List.{List}
 use lib.ListN.{length}
 use native.Mathlib.Omega.{arith}
+use native.Mathlib.Numerals.{add-one}
 use Rattle.pieces.specs.Labels.{leftFrom, netOf}
 use Rattle.pieces.proofs.Alone.{Left, left-of}
 use Rattle.checker.specs.Working.{Within, ColumnAt}
@@ -60,3 +61,32 @@ module _ (D : List ℕ) (t b q : ℕ) (C : ColumnAt D t b q) where
     -- and that of the left one
     pub small-left : q + j < 1000000
     small-left = omega (arith, left-small, short, C .within .high)
+
+-- x columns are passed, and b and q are the positions of the next
+pub record NextColumn (D : List ℕ) (w t x b q : ℕ) : Type 0 where
+  pub below : x ≤ w
+  pub base : b ≡ x * (2 * t + 1)
+  pub before : q ≡ leftFrom (length D) t x
+
+-- none at first
+pub next-start : (D : List ℕ) (w t : ℕ) → NextColumn D w t 0 0 (length D)
+next-start D w t = record { below = omega arith; base = omega arith; before = sym (left-from-zero (length D) t) }
+
+module _ (D : List ℕ) (w t x b q : ℕ) (d : Within D w t) (p : NextColumn D w t x b q) (l : x < w) where
+  -- the next is a column of the drawing
+  unfoldable pub next-column : ColumnAt D t b q
+  next-column = record { w = w; x = x; within = d; below = l; base = p .base; before = p .before }
+
+  -- its positions are small
+  pub next-small : b + 2 * t + 1 ≤ 1000000
+  next-small = omega (arith, room D t b q next-column, short D t b q next-column)
+
+  -- and the one after it
+  pub next-after : NextColumn D w t (x + 1) (b + 2 * t + 1) (b + t + 1)
+  next-after =
+      rw (add-one x)
+      (record {
+        below = l;
+        base = omega (arith, p .base);
+        before = sym (left-from-suc (length D) t x ∙ ap (λ (k : ℕ). k + t + 1) (sym (p .base)));
+      })
