@@ -1,4 +1,4 @@
-// Runs the checker on cases from standard input and writes the number and the place of each answer, a line for each case.
+// Runs the checker on cases from standard input and writes number, place, column and row of each answer, a line for each case.
 // A case is 16-bit words, low byte first: the length of the top row, of the bottom row, the width, the tracks, the length of the layout (two words, low
 // word first), then the rows and the layout. A case that is cut off ends the run.
 ghost use mathlib.Core.Path.{_≡_};
@@ -27,18 +27,27 @@ fn number(w: u16) -> usize
     w as usize
 }
 
-// Writes a number and a place.
-fn write_line(number: u64, place: u64) {
+// Writes a line of four numbers.
+fn write_line(number: u64, place: u64, column: u64, row: u64) {
     io::print_decimal(1, number);
     io::write_all(1, b" ");
     io::print_decimal(1, place);
+    io::write_all(1, b" ");
+    io::print_decimal(1, column);
+    io::write_all(1, b" ");
+    io::print_decimal(1, row);
     io::write_all(1, b"\n");
 }
 
 // Checks a drawing and writes the answer.
 fn answer(top: &[u16], bottom: &[u16], w: usize, t: usize, layout: &[u16]) {
     let c = checker::check(top, bottom, w, t, layout);
-    write_line(checker::number_of(c) as u64, checker::place_of(c) as u64);
+    write_line(
+        checker::number_of(c) as u64,
+        checker::place_of(c) as u64,
+        checker::column_of(c) as u64,
+        checker::row_of(c) as u64,
+    );
 }
 
 // The case at a place: answers it and gives the place of the next; the same place where there is none.

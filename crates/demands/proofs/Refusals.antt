@@ -10,7 +10,7 @@ use Rattle.grid.proofs.Answers.{check-number, check-figures, density-number, de
 use Rattle.router.specs.Answers as routing
 use Rattle.router.proofs.Answered.{need-number, need-entries, answer-number, answer-figures}
 use Rattle.checker.specs.Check as checking
-use Rattle.checker.proofs.Answers.{check-parts, no-place-else}
+use Rattle.checker.proofs.Answers.{check-parts, no-place-else, no-point-else}
 use Rattle.report.specs.Report as reporting
 use Rattle.report.proofs.Answers as report
 use Rattle.record.specs.Record as reading
@@ -19,9 +19,9 @@ use Rattle.record.proofs.Refusals.{numbered, columns-by}
 use Rattle.listing.specs.Listing as listing
 use Rattle.listing.proofs.Records.{listed-number, listed-length}
 use Rattle.demands.specs.Table.{First, end, ofRecord, ofRows, ofLayout, ofNetTable, ofDrawing}
-use Rattle.demands.specs.Refusals.{Refuses, RefusesRecord, Zeros, ZerosRecord, Places}
+use Rattle.demands.specs.Refusals.{Refuses, RefusesRecord, Zeros, ZerosRecord, Places, LooseEnds}
 use Rattle.demands.proofs.Lines.{rows-lines, rows-first, layout-first, table-first, record-lines}
-use Rattle.demands.proofs.Drawings.{drawing-lines, strange-least, pin-least, last-least, split-least}
+use Rattle.demands.proofs.Drawings.{drawing-lines, strange-least, pin-least, last-least, split-least, loose-least, loose-point}
 
 -- THE NUMBERS
 module _ (top bottom : List ℕ) where
@@ -73,14 +73,23 @@ module _ (top bottom : List ℕ) where
   -- THE PLACES
   pub places : (w t : ℕ) (D : List ℕ) → Places top bottom w t D
   places w t D =
-      let n = check-parts top bottom w t D .0 in
-      let p = check-parts top bottom w t D .1 in
+      let (n, p, c, r) = check-parts top bottom w t D in
       record {
         strange = λ e. strange-least top bottom w t D _ (sym n ∙ e) p;
         pin = λ e. pin-least top bottom w t D _ (sym n ∙ e) p;
         last = λ e. last-least top bottom w t D _ (sym n ∙ e) p;
         split = λ e. split-least top bottom w t D _ (sym n ∙ e) p;
-        other = λ o. p ∙ no-place-else top bottom w t D _ (subst (λ (k : ℕ). (k < 13) ⊎ (16 < k)) n o);
+        loose = λ e. loose-least top bottom w t D _ (sym n ∙ e) p;
+        other = λ o. p ∙ no-place-else top bottom w t D _ (subst (λ (k : ℕ). (k < 13) ⊎ (17 < k)) n o);
+      }
+
+  -- the loose ends
+  pub loose-ends : (w t : ℕ) (D : List ℕ) → LooseEnds top bottom w t D
+  loose-ends w t D =
+      let (n, p, c, r) = check-parts top bottom w t D in
+      record {
+        first = λ e. loose-point top bottom w t D _ (sym n ∙ e) p _ _ c r;
+        other = λ o. let (i, j) = no-point-else top bottom w t D _ (λ z. o (n ∙ z)) in (c ∙ i, r ∙ j);
       }
 
 -- A RECORD

@@ -10,6 +10,7 @@ use lib.ListN.{length}
 use Rattle.grid.specs.declared.Family.{Family}
 use Rattle.grid.specs.declared.Family.the-variants.{TwoPin, ManyPin}
 use Rattle.grid.specs.Channel.{pick, bit, count, pins, density, pinsWithin, family, tracks, rowsRefused}
+use Rattle.grid.specs.Grid.{Wiring}
 use Rattle.grid.specs.Answers as counting
 use Rattle.grid.proofs.Tests.{eq-eqb, le-ltb}
 use Rattle.grid.proofs.Counting.{sum-zero}
@@ -62,13 +63,18 @@ module _ (top bottom : List ℕ) (ok : rowsRefused top bottom 256 ≡ 0) where
   unfolding LetsThrough routing.sliceLength
   enough = ((λ h. omega (arith, h, stated)), tt)
 
+  -- with two-pin nets only no wiring has fewer tracks, and so no solution
+  fewest-tracks : PairsOnly top bottom → (w t : ℕ) (D : List ℕ) → Wiring top bottom w t D → tracks top bottom ≤ t
+  fewest-tracks p w t D s = omega (arith, two-density top bottom (pairs-two top bottom p), density-le top bottom w t D (fit .same) s)
+
   drawn : ChannelDrawn top bottom
   unfolding routing.sliceLength
   drawn =
       record {
         solution = solved top bottom ok;
         pairs = λ p. two-density top bottom (pairs-two top bottom p);
-        fewest = λ p w t D s. omega (arith, two-density top bottom (pairs-two top bottom p), density-le top bottom w t D (fit .same) s);
+        fewest = λ p w t D s. fewest-tracks p w t D (s .wiring);
+        fewestWiring = fewest-tracks;
         more = λ v n p. many-density top bottom (more-many top bottom fit v n p);
         covers = width-least top bottom ok;
         addedPairs = λ p. added-two top bottom fit (pairs-two top bottom p);

@@ -13,7 +13,7 @@ use Rattle.report.specs.Report as reporting
 use Rattle.record.specs.Record as reading
 use Rattle.record.specs.Record.{topRow, bottomRow}
 use Rattle.listing.specs.Listing as listing
-use Rattle.checker.specs.Faults.{Strange, PinWrong, LeavesLast, Split}
+use Rattle.checker.specs.Faults.{Strange, PinWrong, LeavesLast, Split, LooseEnd, FirstLoose}
 use Rattle.demands.specs.Table.{First, end, ofRecord, ofRows, ofLayout, ofNetTable, ofDrawing, Least}
 
 -- THE FIRST NUMBER THAT APPLIES, call by call: of the calls on rows, `most` a limit of columns and `lent` the length of a slice
@@ -44,7 +44,8 @@ pub record ZerosRecord (s : List ℕ) : Type 0 where
   pub read : reading.number (reading.recordRead s) ≢ 0 → reading.columns (reading.recordRead s) ≡ 0
   pub list : listing.numberOf (listing.listed s) ≢ 0 → listing.lengthOf (listing.listed s) ≡ 0
 
--- "For 13 to 15 the checker adds the lowest entry position, from 0; for 16 the lowest net number; its place is 0 otherwise."
+-- "For 13 to 15 the checker adds the lowest entry position, from 0; for 16 the lowest net number; its place is 0 otherwise."; for 17, document 02, Job 1,
+-- "The place is the lowest net number with a loose end"
 pub record Places (top bottom : List ℕ) (w t : ℕ) (D : List ℕ) : Type 0 where
   pub strange :
       checking.numberOf (checking.checked top bottom w t D) ≡ 13 → Least (Strange top bottom D) (checking.placeOf (checking.checked top bottom w t D))
@@ -52,6 +53,17 @@ pub record Places (top bottom : List ℕ) (w t : ℕ) (D : List ℕ) : Type 0 wh
       checking.numberOf (checking.checked top bottom w t D) ≡ 14 → Least (PinWrong top bottom w t D) (checking.placeOf (checking.checked top bottom w t D))
   pub last : checking.numberOf (checking.checked top bottom w t D) ≡ 15 → Least (LeavesLast w t D) (checking.placeOf (checking.checked top bottom w t D))
   pub split : checking.numberOf (checking.checked top bottom w t D) ≡ 16 → Least (Split t D) (checking.placeOf (checking.checked top bottom w t D))
+  pub loose : checking.numberOf (checking.checked top bottom w t D) ≡ 17 → Least (LooseEnd w t D) (checking.placeOf (checking.checked top bottom w t D))
   pub other :
-      (checking.numberOf (checking.checked top bottom w t D) < 13) ⊎ (16 < checking.numberOf (checking.checked top bottom w t D))
+      (checking.numberOf (checking.checked top bottom w t D) < 13) ⊎ (17 < checking.numberOf (checking.checked top bottom w t D))
       → checking.placeOf (checking.checked top bottom w t D) ≡ 0
+
+-- "two further numbers give the column and row of that net's first such point, by column and then row, and are 0 in every other case"
+pub record LooseEnds (top bottom : List ℕ) (w t : ℕ) (D : List ℕ) : Type 0 where
+  pub first :
+      checking.numberOf (checking.checked top bottom w t D) ≡ 17
+      → FirstLoose w t D (checking.placeOf (checking.checked top bottom w t D)) (checking.faultColumn (checking.checked top bottom w t D))
+      (checking.faultRow (checking.checked top bottom w t D))
+  pub other :
+      checking.numberOf (checking.checked top bottom w t D) ≢ 17
+      → (checking.faultColumn (checking.checked top bottom w t D) ≡ 0) × (checking.faultRow (checking.checked top bottom w t D) ≡ 0)

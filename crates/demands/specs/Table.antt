@@ -1,11 +1,11 @@
--- Document 01, "Refused, by place": the table itself, line by line.
+-- Document 01, "Refused, by place": the table itself, line by line, with the line that document 02 adds.
 use Prim.Native.Nat.{ℕ, _+_, _*_, _-_, _/_, _≤_, _<_}
 use mathlib.Core.Path.{_≡_}
 use mathlib.Core.Logic.{_≢_, _⊎_}
 use mathlib.Core.List.{List}
 use lib.ListN.{length, getD}
 use Rattle.grid.specs.Channel.{pins, tracks}
-use Rattle.checker.specs.Faults.{Strange, PinWrong, LeavesLast, Split}
+use Rattle.checker.specs.Faults.{Strange, PinWrong, LeavesLast, Split, LooseEnd}
 use Rattle.record.specs.Record.{word}
 
 -- the lines of a table: number, and when it applies
@@ -86,4 +86,6 @@ ofDrawing top bottom w t D =
     (line 15 (Some (LeavesLast w t D))
     -- "a net in more than one piece"
     (line 16 (Some (Split t D))
-    end))))))
+    -- document 02, Job 1: "17: loose end; checked after 16"
+    (line 17 (Some (LooseEnd w t D))
+    end)))))))

@@ -5,7 +5,7 @@ use mathlib.Core.Logic.{_≢_, _⊎_, _↔_}
 use mathlib.Core.List.{List, _++_}
 use lib.ListN.{length, drop}
 use Rattle.grid.specs.Channel.{pins, density, tracks}
-use Rattle.grid.specs.Grid.{Solution}
+use Rattle.grid.specs.Grid.{Wiring, Solution}
 use Rattle.grid.specs.Answers as counting
 use Rattle.router.specs.Answers.{width, layout}
 use Rattle.router.specs.Answers as routing
@@ -25,6 +25,8 @@ pub record ChannelDrawn (top bottom : List ℕ) : Type 0 where
   -- with two-pin nets only the drawing has d tracks, and no solution of any width, whoever made it, has fewer
   pub pairs : PairsOnly top bottom → tracks top bottom ≡ density top bottom
   pub fewest : PairsOnly top bottom → (w t : ℕ) (D : List ℕ) → Solution top bottom w t D → tracks top bottom ≤ t
+  -- nor has one of document 01's drawings, loose ends or not
+  pub fewestWiring : PairsOnly top bottom → (w t : ℕ) (D : List ℕ) → Wiring top bottom w t D → tracks top bottom ≤ t
   -- "else 2d - 1": with a net of three or more pins
   pub more : (v : ℕ) → v ≢ 0 → 3 ≤ pins top bottom v → tracks top bottom ≡ 2 * density top bottom - 1
   -- n columns, and added ones: "At most d/2, rounded down", with two-pin nets only; else "at most d - 1"

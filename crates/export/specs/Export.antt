@@ -11,7 +11,7 @@ use Rattle.router.specs.declared.Length.{Length}
 use Rattle.router.specs.declared.Routed.{Routed}
 use Rattle.router.specs.Answers.{numberOf, figuresOf, lengthNumberOf, entriesOf}
 use Rattle.checker.specs.declared.Checked.{Checked}
-use Rattle.checker.specs.Check.{placeOf}
+use Rattle.checker.specs.Check.{placeOf, faultColumn, faultRow}
 use Rattle.checker.specs.Check.{numberOf as faultNumber}
 use Rattle.report.specs.declared.NetRecord.{NetRecord}
 use Rattle.report.specs.Report.{records, refused}
@@ -37,9 +37,9 @@ abbrev pub routeOf : Routed → RouteResult
 routeOf a =
     record { number = numberOf a; density = figuresOf a .density; tracks = figuresOf a .tracks; width = figuresOf a .width }
 
--- the checker's number and place
+-- the checker's number, place, column and row
 abbrev pub faultOf : Checked → CheckResult
-faultOf a = record { number = faultNumber a; place = placeOf a }
+faultOf a = record { number = faultNumber a; place = placeOf a; column = faultColumn a; row = faultRow a }
 
 -- the listing's number and the bytes of its text
 abbrev pub listOf : Listed → ListResult

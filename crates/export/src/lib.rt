@@ -44,6 +44,8 @@ pub struct RouteResult {
 pub struct CheckResult {
     pub number: u16,
     pub place: usize,
+    pub column: usize,
+    pub row: usize,
 }
 
 #[repr(C)]
@@ -126,6 +128,8 @@ pub extern "C" fn gaxwethi_check(
     CheckResult {
         number: checker::number_of(a),
         place: checker::place_of(a),
+        column: checker::column_of(a),
+        row: checker::row_of(a),
     }
 }
 
