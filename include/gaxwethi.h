@@ -13,13 +13,14 @@
  * a net number, or 0 for no edge. The drawing is a solution if w is at least
  * n, every entry is 0 or a net of the channel, the first and last vertical
  * entries of each column equal its pins (0 past column n), the last column has
- * no horizontal edge, and the edges of each net are one piece.
+ * no horizontal edge, the edges of each net are one piece, and no net has a
+ * loose end: a grid point on rows 1 to t where it has one edge.
  *
  * Numbers. Each call but gaxwethi_column answers with a number: 0 for
  * acceptance, else why it is refused. Refusals are checked in the order of
  * their numbers; a call skips those of the places that it lacks. A refused
  * call writes nothing: all that it is lent keeps its contents. Its other
- * figures are 0, but for the checker's place.
+ * figures are 0, but for the checker's place, column and row.
  *
  *    Record    1  under 4 or over 1,030 bytes, or a wrong length field
  *              2  kind not 1
@@ -37,6 +38,7 @@
  *             14  pin edge wrong
  *             15  horizontal edge in the last column
  *             16  a net in more than one piece
+ *             17  a loose end
  *
  * Slices. A slice is lent as a pointer and a length in elements. The pointer
  * is not null, also where the length is 0, is aligned, and is good for that
@@ -106,16 +108,20 @@ gaxwethi_route_result gaxwethi_route(const uint16_t *top, size_t n,
 typedef struct {
     uint16_t number;
     size_t place;
+    size_t column;
+    size_t row;
 } gaxwethi_check_result;
 
 /*
  * Checks any drawing of a channel by the grid's rules alone. Refuses with 4
- * to 7 and 10 to 16; the number is 0 exactly if the rows are accepted (none of
+ * to 7 and 10 to 17; the number is 0 exactly if the rows are accepted (none of
  * 4 to 7 applies), w and t are at most 511, the slice has the drawing's length,
  * and the drawing is a solution.
  *
  * The place is, for 13 to 15, the lowest position of such an entry, counted
- * from 0; for 16 the lowest number of such a net; else 0.
+ * from 0; for 16 and 17 the lowest number of such a net; else 0. For 17 column
+ * and row, counted from 1 (row y is track y), are those of that net's first
+ * loose end, by column and then row; else they are 0.
  */
 gaxwethi_check_result gaxwethi_check(const uint16_t *top, size_t n,
                                      const uint16_t *bottom, size_t m,

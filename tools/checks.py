@@ -2,77 +2,24 @@
 """The cases of the program `check_cases`: its standard input and the answers expected of it.
 
   checks.py                             makes crates/check_cases/stdin and crates/check_cases/stdout
-  checks.py --large SHAPE N STDIN       one drawing of N columns and N tracks, SHAPE one of spiral, zigzag, comb, ladders; the answer goes to standard output
+  checks.py --large SHAPE N STDIN       one drawing of N columns and N tracks, SHAPE one of spiral, zigzag, comb, ladders, hairpins, rings; the answer
+                                        goes to standard output
 
-The cases are those of tools/cases/checks.txt, which the customer worked, with their answers, and some that are made here. A case in text is five lines,
-`top ..`, `bottom ..`, `width W tracks T`, `layout ..`, `number N place P`, and cases are parted by an empty line. For the program it is 16-bit words, low
-byte first: the lengths of the two rows, width, tracks, the layout's length (two words, low word first), the rows, the layout. A width of -1 becomes 65535,
-which is refused alike. The answers of the cases made here come from `check` below, a second checker by flood fill, which is held to the customer's
-answers too.
+The cases are those of tools/cases and some that are made here. Of the first, checks.txt was worked by the customer before Job 1, and job1-8-checks.txt by
+an independent model of documents 01 and 02. A case in text is five lines, `top ..`, `bottom ..`, `width W tracks T`, `layout ..`, `number N place P`, from
+Job 1 on with `column C row R`, and cases are parted by an empty line. For the program it is 16-bit words, low byte first: the lengths of the two rows,
+width, tracks, the layout's length (two words, low word first), the rows, the layout. A width of -1 becomes 65535, which is refused alike. The program
+answers each case by a line `N P C R`. The answers are the second checker's, which is held to those of tools/cases.
 """
 import pathlib
 import struct
 import sys
 
+from second_checker import check
+from second_router import blocks, check_case, same_check
+
 ROOT = pathlib.Path(__file__).resolve().parent.parent
-WORKED = ROOT / 'tools' / 'cases' / 'checks.txt'
-
-
-def check(top, bottom, w, t, layout):
-    """The table of refusals, number by number: (number, place)."""
-    if len(top) != len(bottom):
-        return 4, 0
-    if len(top) > 256:
-        return 5, 0
-    if any(v > 256 for v in top + bottom):
-        return 6, 0
-    pins = {}
-    for v in top + bottom:
-        if v:
-            pins[v] = pins.get(v, 0) + 1
-    if 1 in pins.values():
-        return 7, 0
-    if w < len(top) or w > 511:
-        return 10, 0
-    if t > 511:
-        return 11, 0
-    each = 2 * t + 1
-    if len(layout) != w * each:
-        return 12, 0
-    for p, v in enumerate(layout):
-        if v and v not in pins:
-            return 13, p
-    for p, v in enumerate(layout):
-        x, i = divmod(p, each)
-        if i == 0 and v != (bottom[x] if x < len(bottom) else 0):
-            return 14, p
-        if i == t and v != (top[x] if x < len(top) else 0):
-            return 14, p
-    for p in range(max(0, len(layout) - t), len(layout)):
-        if layout[p]:
-            return 15, p
-    for v in sorted(pins):
-        if pieces(w, t, layout, v) > 1:
-            return 16, v
-    return 0, 0
-
-
-def pieces(w, t, layout, net):
-    """How many pieces a net has, by flood fill over its points."""
-    near = {}
-    for p, v in enumerate(layout):
-        if v == net:
-            x, i = divmod(p, 2 * t + 1)
-            a, b = ((x, i), (x, i + 1)) if i <= t else ((x, i - t), (x + 1, i - t))
-            near.setdefault(a, []).append(b)
-            near.setdefault(b, []).append(a)
-    count = 0
-    while near:
-        count += 1
-        wave = [next(iter(near))]
-        while wave:
-            wave.extend(near.pop(wave.pop(), ()))
-    return count
+WORKED = [ROOT / 'tools' / 'cases' / name for name in ('checks.txt', 'job1-8-checks.txt')]
 
 
 class Drawing:
@@ -149,17 +96,106 @@ def ladders(w, t):
     return [1], [1], d
 
 
-SHAPES = {'spiral': spiral, 'zigzag': zigzag, 'comb': comb, 'ladders': ladders}
+def hairpins(w, t):
+    """One net without loose ends: hairpins, bent in column 1, that meet only in the last column."""
+    d = Drawing(w, t)
+    for y in range(1, t, 3):
+        d.line(0, y, 0, y + 1)
+        d.line(0, y, w - 1, y)
+        d.line(0, y + 1, w - 1, y + 1)
+    d.line(0, t, w - 1, t)
+    d.line(w - 1, 1, w - 1, t)
+    d.up(0, 0)
+    d.up(0, t)
+    return [1], [1], d
+
+
+def rings(w, t):
+    """One net without loose ends: rings inside one another, each joined to the next by two edges, on the left and on the right in turn."""
+    d = Drawing(w, t)
+    left, low, wide, high = 0, 1, w - 1, t
+    on_left = True
+    while left < wide and low < high:
+        d.line(left, low, left, high)
+        d.line(wide, low, wide, high)
+        d.line(left, low, wide, low)
+        d.line(left, high, wide, high)
+        if left + 2 < wide - 2 and low + 2 < high - 2:
+            x = left if on_left else wide - 2
+            d.line(x, low + 2, x + 2, low + 2)
+        on_left = not on_left
+        left, low, wide, high = left + 2, low + 2, wide - 2, high - 2
+    d.up(0, 0)
+    d.up(0, t)
+    return [1], [1], d
+
+
+SHAPES = {'spiral': spiral, 'zigzag': zigzag, 'comb': comb, 'ladders': ladders, 'hairpins': hairpins, 'rings': rings}
+
+
+def wired(top, bottom, w, t, *lines):
+    """A case whose drawing has the pins' own edges and some lines, as `Drawing.line` takes them."""
+    d = Drawing(w, t)
+    for x, (above, below) in enumerate(zip(top, bottom)):
+        d.up(x, 0, below)
+        d.up(x, t, above)
+    for line in lines:
+        d.line(*line)
+    return top, bottom, w, t, d.layout
+
+
+def ends():
+    """Cases with loose ends, and close to such."""
+    # One stub: at column 1 and column w, on row 1 and row t.
+    above, below = ([1, 1], [0, 0]), ([0, 0], [1, 1])
+    yield wired(*above, 2, 2, (0, 2, 1, 2), (0, 1, 0, 2))
+    yield wired(*above, 2, 2, (0, 2, 1, 2), (1, 1, 1, 2))
+    yield wired(*below, 2, 3, (0, 1, 1, 1), (0, 1, 0, 3))
+    yield wired(*below, 2, 3, (0, 1, 1, 1), (1, 1, 1, 3))
+    yield wired(*above, 4, 2, (0, 2, 3, 2))
+    yield wired(*below, 4, 2, (0, 1, 3, 1))
+    yield wired([0, 0, 1, 1], [0, 0, 0, 0], 4, 1, (0, 1, 3, 1))
+    # One stub inside, with a bend; at the largest column and row.
+    yield wired(*above, 5, 4, (0, 4, 2, 4), (2, 3, 2, 4), (2, 3, 3, 3))
+    yield wired([0, 0], [256, 256], 511, 1, (0, 1, 510, 1, 256))
+    yield wired(*below, 2, 511, (0, 1, 1, 1), (1, 1, 1, 511))
+    # Loops: beside the wire, at the end of a stub, every edge that there is.
+    yield wired(*above, 2, 3, (0, 3, 1, 3), (0, 2, 0, 3), (1, 2, 1, 3), (0, 2, 1, 2))
+    yield wired(*above, 5, 3, (0, 3, 3, 3), (3, 2, 3, 3), (3, 2, 4, 2), (4, 1, 4, 2), (3, 1, 4, 1), (3, 1, 3, 2))
+    yield wired([1, 1, 1], [1, 1, 1], 4, 3, *((x, 1, x, 3) for x in range(4)), *((0, y, 3, y) for y in (1, 2, 3)))
+    # Several at once: the first by column and then row.
+    fork = [0, 0, 0, 0], [0, 1, 1, 0], 4, 3, (1, 1, 1, 2), (2, 1, 2, 2), (1, 2, 2, 2)
+    yield wired(*fork, (2, 2, 3, 2), (1, 2, 1, 3), (2, 2, 2, 3))
+    yield wired(*fork, (2, 2, 3, 2), (3, 1, 3, 3))
+    yield wired(*fork, (1, 2, 1, 3), (0, 2, 1, 2), (2, 2, 2, 3))
+    yield wired(*fork, (2, 1, 3, 1), (2, 2, 2, 3))
+    # Two nets: the lower one, though it is the later; both at one point; at a point that the other passes.
+    yield wired([2, 2, 1, 1], [0, 0, 0, 0], 4, 2, (0, 2, 1, 2, 2), (0, 1, 0, 2, 2), (2, 2, 3, 2), (3, 1, 3, 2))
+    yield wired([0, 1, 1], [2, 2, 0], 3, 3, (1, 3, 2, 3), (1, 2, 1, 3), (0, 1, 1, 1, 2), (0, 1, 0, 2, 2), (0, 2, 1, 2, 2))
+    yield wired([2, 1], [2, 1], 2, 1, (0, 1, 1, 1, 2))
+    # 15 and 16 come first: an edge beyond column w, a net split and loose, split by a loop of its own, loose beside a higher one that is split.
+    yield wired(*above, 2, 2, (0, 2, 1, 2), (0, 1, 0, 2), (1, 1, 2, 1))
+    yield wired(*above, 2, 2)
+    yield wired(*above, 2, 2, (0, 2, 1, 2), (0, 1, 1, 1))
+    yield wired(*above, 4, 2, (0, 2, 1, 2), (2, 1, 2, 2), (2, 1, 3, 1), (2, 2, 3, 2), (3, 1, 3, 2))
+    yield wired([1, 1, 2, 2], [0, 0, 0, 0], 4, 2, (0, 2, 1, 2), (0, 1, 0, 2))
+    # No grid point on a track, or no edge at any.
+    yield [], [], 0, 0, []
+    yield [], [], 0, 1, []
+    yield [], [], 0, 511, []
+    yield [], [], 3, 2, [0] * 15
+    yield [5, 0, 7], [5, 0, 7], 5, 0, [5, 0, 7, 0, 0]
 
 
 def made():
-    """Cases beside those of the customer: rows refused, and large drawings, whole and with one edge gone."""
+    """Cases beside those of tools/cases: rows refused, loose ends, and large drawings, whole and with one edge gone."""
     yield [1, 1], [0], 2, 1, []
     yield [0] * 257, [0] * 257, 257, 0, [0] * 257
     yield [257, 257], [0, 0], 2, 1, [0] * 6
     yield [256, 256], [0, 0], 2, 1, [0, 256, 256, 0, 256, 0]
     yield [1], [0], 1, 0, [0]
     yield [1, 2, 3], [1, 2, 65535], 0, 0, []
+    yield from ends()
     for shape in SHAPES.values():
         top, bottom, d = shape(40, 41)
         yield top, bottom, d.w, d.t, d.layout
@@ -171,10 +207,12 @@ def made():
 
 
 def worked():
-    """The customer's cases, each with its answer."""
-    for case in WORKED.read_text().strip('\n').split('\n\n'):
-        f = {line.split(' ')[0]: [int(v) for v in line.split(' ')[1:] if v.lstrip('-').isdigit()] for line in case.split('\n')}
-        yield f['top'], f['bottom'], f['width'][0], f['width'][1], f['layout'], (f['number'][0], f['number'][1])
+    """The cases of tools/cases, on which the second checker agrees."""
+    for path in WORKED:
+        for part in blocks(path):
+            if not same_check(part):
+                raise AssertionError('the second checker differs from %s: %s' % (path.name, part))
+            yield check_case(part)
 
 
 def words(top, bottom, w, t, layout):
@@ -185,23 +223,15 @@ def words(top, bottom, w, t, layout):
 
 def stored():
     """The bytes of the program's standard input, and the text expected of it."""
-    cases, answers = [], []
-    for *case, answer in worked():
-        if check(*case) != answer:
-            raise AssertionError('the second checker differs from the customer: %s' % case)
-        cases.append(words(*case))
-        answers.append('%d %d\n' % answer)
-    for case in made():
-        cases.append(words(*case))
-        answers.append('%d %d\n' % check(*case))
-    return b''.join(cases), ''.join(answers)
+    cases = [*worked(), *made()]
+    return b''.join(words(*case) for case in cases), ''.join('%d %d %d %d\n' % check(*case) for case in cases)
 
 
 def main(arguments):
     if len(arguments) == 4 and arguments[0] == '--large' and arguments[1] in SHAPES:
         top, bottom, d = SHAPES[arguments[1]](int(arguments[2]), int(arguments[2]))
         pathlib.Path(arguments[3]).write_bytes(words(top, bottom, d.w, d.t, d.layout))
-        print('%d %d' % check(top, bottom, d.w, d.t, d.layout))
+        print('%d %d %d %d' % check(top, bottom, d.w, d.t, d.layout))
     elif not arguments:
         cases, answers = stored()
         (ROOT / 'crates/check_cases/stdin').write_bytes(cases)

@@ -1,84 +1,19 @@
 #!/usr/bin/env python3
 """A second router and checker for knock-knee channels.
 
-Written from the scope paper alone, so that its answers can be laid beside those of the proved one.
+Written from documents 01 and 02 alone, so that its answers can be laid beside those of the proved one.
 It keeps the tracks of each net as a set, draws wires row by row, and finds pieces by a search over grid points.
 
     second_router.py list  < record      the listing of one record
-    second_router.py compare FOLDER      compare with FOLDER/routes.txt, listings.txt and checks.txt
+    second_router.py compare FILE ...    compare with files of worked cases, whose names end in routes.txt, listings.txt or checks.txt
 """
 
-import os
 import sys
 
-from second_sweep import LARGEST, pin_counts, refusal, route
+from second_checker import check
+from second_sweep import LARGEST, refusal, route
 
-WIDEST = 511  # width and tracks of a drawing that is checked
 LISTED = 64  # columns of a channel that is listed
-
-
-# Checker
-
-
-def edges(layout, t):
-    """Each edge of a drawing that carries a net, as net and its two grid points."""
-    size = 2 * t + 1
-    for position, net in enumerate(layout):
-        if net:
-            column, entry = position // size + 1, position % size
-            if entry <= t:
-                yield net, (column, entry), (column, entry + 1)
-            else:
-                yield net, (column, entry - t), (column + 1, entry - t)
-
-
-def in_one_piece(pairs):
-    """Whether edges hang together at shared points."""
-    neighbours = {}
-    for one, other in pairs:
-        neighbours.setdefault(one, []).append(other)
-        neighbours.setdefault(other, []).append(one)
-    seen, todo = set(), [next(iter(neighbours))]
-    while todo:
-        point = todo.pop()
-        if point not in seen:
-            seen.add(point)
-            todo += neighbours[point]
-    return len(seen) == len(neighbours)
-
-
-def check(top, bottom, w, t, layout):
-    """Number and place of the first row of the table that applies to a drawing of a channel."""
-    number = refusal(top, bottom)
-    if number:
-        return number, 0
-    n, size = len(top), 2 * t + 1
-    if not n <= w <= WIDEST:
-        return 10, 0
-    if t > WIDEST:
-        return 11, 0
-    if len(layout) != w * size:
-        return 12, 0
-    nets = pin_counts(top, bottom)
-    for position, entry in enumerate(layout):
-        if entry and entry not in nets:
-            return 13, position
-    for column in range(w):
-        above, below = (top[column], bottom[column]) if column < n else (0, 0)
-        if layout[column * size] != below:
-            return 14, column * size
-        if layout[column * size + t] != above:
-            return 14, column * size + t
-    for position in range(max(w - 1, 0) * size + t + 1, w * size):
-        if layout[position]:
-            return 15, position
-    wires = {}
-    for net, one, other in edges(layout, t):
-        wires.setdefault(net, []).append((one, other))
-    for net in sorted(wires):
-        if not in_one_piece(wires[net]):
-            return 16, net
-    return 0, 0
 
 
 # Record and listing
@@ -145,23 +80,37 @@ def figures(line):
 def same_route(part):
     top, bottom, layout = row(part[0]), row(part[1]), row(part[3])
     d, t, w, drawn = route(top, bottom)
-    return (d, t, w) == figures(part[2]) and drawn == layout and check(top, bottom, w, t, drawn) == (0, 0)
+    return (d, t, w) == figures(part[2]) and drawn == layout and check(top, bottom, w, t, drawn) == (0, 0, 0, 0)
 
 
 def same_listing(part):
     return listing(bytes.fromhex(part[0].partition(" ")[2])) == "\n".join(part[1:]) + "\n"
 
 
+def check_case(part):
+    """What the checker is lent."""
+    return row(part[0]), row(part[1]), *figures(part[2]), row(part[3])
+
+
 def same_check(part):
-    return check(row(part[0]), row(part[1]), *figures(part[2]), row(part[3])) == figures(part[4])
+    """Whether the checker gives a worked case's answer. One without column and row is from before Job 1, when a loose end passed; one
+    with them has the numbers of Job 8, which divides 14 into 14, 19 and 20."""
+    answer, worked = check(*check_case(part)), figures(part[4])
+    if len(worked) == 2:
+        return worked == ((0, 0) if answer[0] == 17 else answer[:2])
+    return (14 if worked[0] in (19, 20) else worked[0], *worked[1:]) == answer
 
 
-def compare(folder):
+KINDS = {"routes.txt": same_route, "listings.txt": same_listing, "checks.txt": same_check}
+
+
+def compare(paths):
     """Count agreements; whether there is no other answer."""
     whole = True
-    for name, same in (("routes", same_route), ("listings", same_listing), ("checks", same_check)):
-        answers = [same(part) for part in blocks(os.path.join(folder, name + ".txt"))]
-        print(name, sum(answers), "of", len(answers), "agree")
+    for path in paths:
+        same = next(same for name, same in KINDS.items() if path.endswith(name))
+        answers = [same(part) for part in blocks(path)]
+        print(path, sum(answers), "of", len(answers), "agree")
         whole = whole and all(answers)
     return whole
 
@@ -169,7 +118,7 @@ def compare(folder):
 if __name__ == "__main__":
     if sys.argv[1:] == ["list"]:
         sys.stdout.write(listing(sys.stdin.buffer.read()))
-    elif len(sys.argv) == 3 and sys.argv[1] == "compare":
-        sys.exit(0 if compare(sys.argv[2]) else 1)
+    elif len(sys.argv) > 2 and sys.argv[1] == "compare" and all(path.endswith(tuple(KINDS)) for path in sys.argv[2:]):
+        sys.exit(0 if compare(sys.argv[2:]) else 1)
     else:
         sys.exit(__doc__)

@@ -51,7 +51,8 @@ int main(void)
     }
     gaxwethi_check_result checked =
         gaxwethi_check(top, n, bottom, n, drawn.width, drawn.tracks, layout, length);
-    printf("check: number %u place %zu\n", checked.number, checked.place);
+    printf("check: number %u place %zu column %zu row %zu\n", checked.number, checked.place,
+           checked.column, checked.row);
     free(layout);
     return checked.number != 0;
 }

@@ -46,13 +46,21 @@ impl Figures {
 pub struct Fault {
     pub refusal: Refusal,
     /// The lowest position of a bad entry for refusals 13 to 15, the lowest
-    /// net number for 16, else 0.
+    /// net number for 16 and 17, else 0.
     pub place: usize,
+    /// For 17 the column of that net's first loose end, counted from 1; else 0.
+    pub column: usize,
+    /// For 17 its row, which is its track; else 0.
+    pub row: usize,
 }
 
 impl std::fmt::Display for Fault {
     fn fmt(&self, f: &mut std::fmt::Formatter) -> std::fmt::Result {
         match self.refusal {
+            Refusal::LooseEnd => {
+                let Fault { refusal, place, column, row } = self;
+                write!(f, "{refusal}, net {place} at column {column}, row {row}")
+            }
             Refusal::Pieces => write!(f, "{}, net {}", self.refusal, self.place),
             Refusal::Entry | Refusal::PinEdge | Refusal::LastColumn => {
                 write!(f, "{}, entry {}", self.refusal, self.place)
@@ -80,7 +88,7 @@ pub struct NetRecord {
 fn accept<T>(number: u16, value: T) -> Result<T, Refusal> {
     match number {
         0 => Ok(value),
-        _ => Err(Refusal::from_number(number).expect("the library's numbers are 0 to 16")),
+        _ => Err(Refusal::from_number(number).expect("the library's numbers are 0 to 17")),
     }
 }
 
@@ -113,7 +121,7 @@ pub fn route(top: &[u16], bottom: &[u16], layout: &mut [u16]) -> Result<Figures,
 }
 
 /// Checks any drawing of a channel by the grid's rules: `Ok` for a solution,
-/// else refusal 4 to 7 or 10 to 16 with its place.
+/// else refusal 4 to 7 or 10 to 17 with its place.
 pub fn check(
     top: &[u16],
     bottom: &[u16],
@@ -126,7 +134,8 @@ pub fn check(
     let r = unsafe {
         raw::gaxwethi_check(top.as_ptr(), n, bottom.as_ptr(), m, width, tracks, entries, len)
     };
-    accept(r.number, ()).map_err(|refusal| Fault { refusal, place: r.place })
+    let raw::Checked { number, place, column, row } = r;
+    accept(number, ()).map_err(|refusal| Fault { refusal, place, column, row })
 }
 
 /// Fills the first 256 records of a table, one for each net number; what

@@ -32,6 +32,8 @@ pub struct Routed {
 pub struct Checked {
     pub number: u16,
     pub place: usize,
+    pub column: usize,
+    pub row: usize,
 }
 
 #[repr(C)]

@@ -2,7 +2,7 @@
 
 use std::fmt;
 
-/// A refusal, with the number that the scope paper gives it.
+/// A refusal, with the number that the customer's papers give it.
 #[derive(Clone, Copy, Debug, PartialEq, Eq, PartialOrd, Ord, Hash)]
 #[repr(u16)]
 pub enum Refusal {
@@ -38,11 +38,14 @@ pub enum Refusal {
     LastColumn = 15,
     /// A net is in more than one piece; the place is the lowest such net.
     Pieces = 16,
+    /// A net has one edge at a grid point on a track; the place is the lowest
+    /// such net.
+    LooseEnd = 17,
 }
 
 impl Refusal {
     /// All refusals in the order of their numbers.
-    pub const ALL: [Refusal; 16] = [
+    pub const ALL: [Refusal; 17] = [
         Refusal::RecordLength,
         Refusal::RecordKind,
         Refusal::RecordBody,
@@ -59,14 +62,15 @@ impl Refusal {
         Refusal::PinEdge,
         Refusal::LastColumn,
         Refusal::Pieces,
+        Refusal::LooseEnd,
     ];
 
-    /// The paper's number, 1 to 16.
+    /// The papers' number, 1 to 17.
     pub fn number(self) -> u16 {
         self as u16
     }
 
-    /// The refusal of a number; `None` for 0, which is acceptance, and over 16.
+    /// The refusal of a number; `None` for 0, which is acceptance, and over 17.
     pub fn from_number(number: u16) -> Option<Refusal> {
         let at = (number as usize).checked_sub(1)?;
         Self::ALL.get(at).copied()
@@ -92,6 +96,7 @@ impl fmt::Display for Refusal {
             Refusal::PinEdge => "a pin edge that differs from its pin",
             Refusal::LastColumn => "a horizontal edge in the last column",
             Refusal::Pieces => "a net in more than one piece",
+            Refusal::LooseEnd => "a loose end",
         };
         write!(f, "refused {}: {reason}", self.number())
     }

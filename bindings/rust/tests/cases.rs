@@ -37,7 +37,7 @@ fn slice_of_case_d() {
 
 #[test]
 fn faults_have_a_place() {
-    let fault = |refusal, place| Err(Fault { refusal, place });
+    let fault = |refusal, place| Err(Fault { refusal, place, column: 0, row: 0 });
     assert_eq!(check(&[5], &[5], 1, 0, &[5]), Ok(()));
     assert_eq!(check(&[5], &[5], 0, 0, &[]), fault(Refusal::Width, 0));
     assert_eq!(check(&[5], &[5], 1, 1, &[5, 5, 4]), fault(Refusal::Entry, 2));
@@ -47,6 +47,20 @@ fn faults_have_a_place() {
     assert_eq!(pieces, fault(Refusal::Pieces, 1));
     let words = "refused 16: a net in more than one piece, net 1";
     assert_eq!(pieces.unwrap_err().to_string(), words);
+}
+
+#[test]
+fn loose_ends_have_a_column_and_a_row() {
+    // Net 1 on track 2, with a stub from track 2 to track 1 in column 2.
+    let stub = [0, 0, 1, 0, 1, 0, 1, 1, 0, 0];
+    let loose = check(&[1, 1], &[0, 0], 2, 2, &stub);
+    assert_eq!(loose, Err(Fault { refusal: Refusal::LooseEnd, place: 1, column: 2, row: 1 }));
+    let words = "refused 17: a loose end, net 1 at column 2, row 1";
+    assert_eq!(loose.unwrap_err().to_string(), words);
+    // A loop over both tracks has none.
+    let around = [0, 1, 1, 1, 1, 0, 1, 1, 0, 0];
+    assert_eq!(check(&[1, 1], &[0, 0], 2, 2, &around), Ok(()));
+    assert_eq!(check(&[], &[], 0, 2, &[]), Ok(()));
 }
 
 #[test]
@@ -118,5 +132,5 @@ fn numbers_of_refusals() {
         assert_eq!(Refusal::from_number(number), Some(refusal));
     }
     assert_eq!(Refusal::from_number(0), None);
-    assert_eq!(Refusal::from_number(17), None);
+    assert_eq!(Refusal::from_number(18), None);
 }

@@ -2,10 +2,19 @@
 
 use crate::rows::nets;
 
-/// The labels of the pieces found so far, and how many each net has.
+/// A net with a single edge at a grid point.
+struct LooseEnd {
+    net: u16,
+    column: usize,
+    row: usize,
+}
+
+/// The labels of the pieces found so far, how many each net has, and the first
+/// loose end of the lowest net that has any.
 struct Pieces {
     parent: Vec<u32>,
     count: [u32; 257],
+    loose: Option<LooseEnd>,
 }
 
 impl Pieces {
@@ -31,23 +40,48 @@ impl Pieces {
             self.count[net as usize] -= 1;
         }
     }
+
+    /// Notes a grid point where some net has a single edge.
+    #[cold]
+    fn note(&mut self, edges: [u16; 4], column: usize, row: usize) {
+        let count = |net| edges.iter().filter(|&&edge| edge == net).count();
+        let lowest = edges.into_iter().filter(|&net| net != 0 && count(net) == 1).min();
+        let Some(net) = lowest else { return };
+        if self.loose.as_ref().is_none_or(|loose| net < loose.net) {
+            self.loose = Some(LooseEnd { net, column, row });
+        }
+    }
 }
 
-/// The number of pieces of each net.
-fn pieces(w: usize, t: usize, layout: &[u16]) -> [u32; 257] {
-    let mut pieces = Pieces { parent: Vec::with_capacity(w + 256), count: [0; 257] };
+/// Whether some net has a single one of the four edges at a grid point.
+fn some_single([a, b, c, d]: [u16; 4]) -> bool {
+    let (ab, ac, ad, bc, bd, cd) = (a == b, a == c, a == d, b == c, b == d, c == d);
+    (a != 0) & !(ab | ac | ad)
+        | (b != 0) & !(ab | bc | bd)
+        | (c != 0) & !(ac | bc | cd)
+        | (d != 0) & !(ad | bd | cd)
+}
+
+/// Goes over a drawing for pieces and loose ends.
+fn pieces(w: usize, t: usize, layout: &[u16]) -> Pieces {
+    let mut pieces = Pieces { parent: Vec::with_capacity(w + 256), count: [0; 257], loose: None };
     let mut strands = vec![(0u16, 0u32); t + 1];
-    for column in layout.chunks_exact(2 * t + 1) {
-        let (vertical, leaving) = column.split_at(t + 1);
+    for (column, entries) in (1..).zip(layout.chunks_exact(2 * t + 1)) {
+        let (vertical, leaving) = entries.split_at(t + 1);
         let mut below = match vertical[0] {
             0 => (0, 0),
             net => (net, pieces.fresh(net)),
         };
-        for ((&up, &right), strand) in vertical[1..].iter().zip(leaving).zip(&mut strands) {
+        let points = vertical[1..].iter().zip(leaving).zip(&mut strands);
+        for (row, ((&up, &right), strand)) in (1..).zip(points) {
             let left = *strand;
             let crossing = below.0 == up && left.0 == right && up != right;
             if crossing {
                 continue;
+            }
+            let edges = [below.0, up, left.0, right];
+            if some_single(edges) {
+                pieces.note(edges, column, row);
             }
             if below.0 != 0 && below.0 == left.0 {
                 pieces.merge(below.0, below.1, left.1);
@@ -57,7 +91,7 @@ fn pieces(w: usize, t: usize, layout: &[u16]) -> [u32; 257] {
             below = above;
         }
     }
-    pieces.count
+    pieces
 }
 
 /// The label of an edge that leaves a grid point, given the other edges there.
@@ -71,43 +105,59 @@ fn label(pieces: &mut Pieces, net: u16, a: (u16, u32), b: (u16, u32), c: (u16, u
     }
 }
 
-/// Number and place of the check of a drawing.
-pub fn check(top: &[u16], bottom: &[u16], w: usize, t: usize, layout: &[u16]) -> (u16, usize) {
+/// The answer of the checker: zeros for a solution.
+#[derive(Clone, Copy, Debug, Default, PartialEq, Eq)]
+pub struct Checked {
+    pub number: u16,
+    pub place: usize,
+    pub column: usize,
+    pub row: usize,
+}
+
+/// Checks a drawing.
+pub fn check(top: &[u16], bottom: &[u16], w: usize, t: usize, layout: &[u16]) -> Checked {
+    let refused = |number, place| Checked { number, place, ..Checked::default() };
     let nets = match nets(top, bottom, 256) {
         Ok(nets) => nets,
-        Err(number) => return (number, 0),
+        Err(number) => return refused(number, 0),
     };
     if w < top.len() || w > 511 {
-        return (10, 0);
+        return refused(10, 0);
     }
     if t > 511 {
-        return (11, 0);
+        return refused(11, 0);
     }
     let each = 2 * t + 1;
     if layout.len() != w * each {
-        return (12, 0);
+        return refused(12, 0);
     }
     let known: [bool; 257] = std::array::from_fn(|x| x == 0 || nets[x].pins > 0);
     let strange = |&x: &u16| !known.get(x as usize).copied().unwrap_or(false);
     if let Some(place) = layout.iter().position(strange) {
-        return (13, place);
+        return refused(13, place);
     }
     let pin = |row: &[u16], c: usize| row.get(c).copied().unwrap_or(0);
     for (c, column) in layout.chunks_exact(each).enumerate() {
         if column[0] != pin(bottom, c) {
-            return (14, c * each);
+            return refused(14, c * each);
         }
         if column[t] != pin(top, c) {
-            return (14, c * each + t);
+            return refused(14, c * each + t);
         }
     }
     let end = layout.len() - layout.len().min(t);
     if let Some(place) = layout[end..].iter().position(|&x| x != 0) {
-        return (15, end + place);
+        return refused(15, end + place);
     }
-    match pieces(w, t, layout).iter().position(|&count| count > 1) {
-        Some(net) => (16, net),
-        None => (0, 0),
+    let Pieces { count, loose, .. } = pieces(w, t, layout);
+    if let Some(net) = count.iter().position(|&count| count > 1) {
+        return refused(16, net);
+    }
+    match loose {
+        Some(LooseEnd { net, column, row }) => {
+            Checked { number: 17, place: net.into(), column, row }
+        }
+        None => Checked::default(),
     }
 }
 

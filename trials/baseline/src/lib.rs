@@ -6,7 +6,7 @@ pub mod list;
 pub mod route;
 pub mod rows;
 
-pub use check::{check, column};
+pub use check::{check, column, Checked};
 pub use list::list;
 pub use route::{need, route, Figures};
 pub use rows::{density, report};

@@ -108,7 +108,7 @@ fn check(cases: &[Case], repetitions: usize) -> Vec<f64> {
     };
     let rust = |c: &Case| {
         let answer = baseline::check(&c.top, &c.bottom, c.width, c.tracks, &c.drawing);
-        (answer == (0, 0)) as usize
+        (answer.number == 0) as usize
     };
     medians(vec![Box::new(library), Box::new(rust)], cases, repetitions)
 }

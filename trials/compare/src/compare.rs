@@ -10,8 +10,8 @@ use std::fmt::Debug;
 pub struct Tally {
     pub channels: u64,
     pub calls: u64,
-    /// How often each number was the answer, 0 to 16.
-    pub numbers: [u64; 17],
+    /// How often each number was the answer, 0 to 17.
+    pub numbers: [u64; 18],
     pub differences: u64,
     /// The first differences, in words.
     pub shown: Vec<String>,
@@ -26,7 +26,7 @@ impl Tally {
         Tally {
             channels: 0,
             calls: 0,
-            numbers: [0; 17],
+            numbers: [0; 18],
             differences: 0,
             shown: Vec::new(),
             text: vec![MARK; TEXT].into_boxed_slice().try_into().unwrap(),
@@ -107,13 +107,15 @@ impl Tally {
     }
 
     fn checks(&mut self, c: &Channel, d: &Drawing) {
-        let (number, place) = second::check(&c.top, &c.bottom, d.w, d.t, &d.entries);
+        let second::Checked { number, place, column, row } =
+            second::check(&c.top, &c.bottom, d.w, d.t, &d.entries);
         let library = library::check(&c.top, &c.bottom, d.w, d.t, &d.entries);
         let call = format!("check, w {} t {}", d.w, d.t);
-        self.same(&call, c, number, Checked { number, place }, library);
+        self.same(&call, c, number, Checked { number, place, column, row }, library);
     }
 
-    /// The checkers on the library's drawing, on damaged ones and on scribbles.
+    /// The checkers on the library's drawing, on damaged ones, on some with more
+    /// wire and on scribbles.
     fn drawings(&mut self, rng: &mut Rng, c: &Channel) {
         let mut entries = vec![0; second::need(&c.top, &c.bottom).unwrap_or(6)];
         let routed = library::route(&c.top, &c.bottom, &mut entries);
@@ -128,7 +130,7 @@ impl Tally {
         self.checks(c, &drawing);
         if rng.percent(20) {
             drawing.widen(rng.from(1, 3));
-            drawing.heighten();
+            drawing.heighten(drawing.t);
             self.checks(c, &drawing);
         }
         let large = drawing.entries.len() > 20_000;
@@ -136,6 +138,9 @@ impl Tally {
             let mut damaged = drawing.clone();
             damage::drawing(rng, c, &mut damaged);
             self.checks(c, &damaged);
+        }
+        for _ in 0..if large { 1 } else { 3 } {
+            self.checks(c, &damage::grown(rng, &drawing));
         }
         if c.top.len() <= 6 {
             for _ in 0..6 {

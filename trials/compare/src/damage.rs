@@ -21,18 +21,25 @@ impl Drawing {
         self.entries.resize(self.w * self.each(), 0);
     }
 
-    /// Adds an empty track above the others.
-    pub fn heighten(&mut self) {
+    /// Adds an empty track under track y + 1: below all others for 0, above
+    /// them for t.
+    pub fn heighten(&mut self, y: usize) {
         let mut entries = Vec::new();
         for column in self.entries.chunks(self.each()) {
             let (vertical, leaving) = column.split_at(self.t + 1);
-            entries.extend_from_slice(vertical);
-            entries.push(vertical[self.t]);
-            entries.extend_from_slice(leaving);
+            entries.extend_from_slice(&vertical[..=y]);
+            entries.extend_from_slice(&vertical[y..]);
+            entries.extend_from_slice(&leaving[..y]);
             entries.push(0);
+            entries.extend_from_slice(&leaving[y..]);
         }
         self.t += 1;
         self.entries = entries;
+    }
+
+    /// The positions of the edges.
+    fn edges(&self) -> Vec<usize> {
+        (0..self.entries.len()).filter(|&i| self.entries[i] != 0).collect()
     }
 }
 
@@ -82,10 +89,7 @@ pub fn drawing(rng: &mut Rng, channel: &Channel, drawing: &mut Drawing) {
             drawing.entries.swap(a, b);
         }
         9 | 10 => {
-            let used: Vec<usize> = (0..len).filter(|&i| drawing.entries[i] != 0).collect();
-            if !used.is_empty() {
-                drawing.entries[rng.pick(&used)] = 0;
-            }
+            erase(rng, drawing);
         }
         _ => {
             for _ in 0..rng.pick(&[1, 1, 1, 2, 3, 5]) {
@@ -96,8 +100,68 @@ pub fn drawing(rng: &mut Rng, channel: &Channel, drawing: &mut Drawing) {
     }
 }
 
+/// Takes away an edge.
+fn erase(rng: &mut Rng, drawing: &mut Drawing) {
+    let edges = drawing.edges();
+    if !edges.is_empty() {
+        drawing.entries[rng.pick(&edges)] = 0;
+    }
+}
+
+/// Adds wire to a net, from a grid point of it on a track through entries that
+/// are 0 or its own: a stub, a spur that runs to the rim, or a loop. A solution
+/// stays one but for loose ends.
+fn grow(rng: &mut Rng, drawing: &mut Drawing) {
+    let (w, t, each) = (drawing.w, drawing.t, drawing.each());
+    let edges = drawing.edges();
+    if t == 0 || edges.is_empty() {
+        return;
+    }
+    let edge = rng.pick(&edges);
+    let net = drawing.entries[edge];
+    let (mut c, mut y) = match (edge / each, edge % each) {
+        (c, k) if k <= t => (c, (k + rng.under(2)).clamp(1, t)),
+        (c, k) => (c + rng.under(2), k - t),
+    };
+    let turning = rng.pick(&[0, 0, 40]);
+    let mut way = rng.under(4);
+    for _ in 0..rng.pick(&[1, 2, 4, 600]) {
+        if rng.percent(turning) {
+            way = rng.under(4);
+        }
+        let (entry, point) = match way {
+            0 if c + 1 < w => (c * each + t + y, (c + 1, y)),
+            1 if c > 0 => ((c - 1) * each + t + y, (c - 1, y)),
+            2 if y < t => (c * each + y, (c, y + 1)),
+            3 if y > 1 => (c * each + y - 1, (c, y - 1)),
+            _ => return,
+        };
+        if drawing.entries[entry] != 0 && drawing.entries[entry] != net {
+            return;
+        }
+        drawing.entries[entry] = net;
+        (c, y) = point;
+    }
+}
+
+/// A drawing with more wire, and perhaps with more room for it or an edge gone.
+pub fn grown(rng: &mut Rng, drawing: &Drawing) -> Drawing {
+    let mut grown = drawing.clone();
+    grown.widen(rng.under(3));
+    for _ in 0..rng.under(3) {
+        grown.heighten(rng.from(0, grown.t));
+    }
+    for _ in 0..rng.from(1, 4) {
+        grow(rng, &mut grown);
+    }
+    if rng.percent(15) {
+        erase(rng, &mut grown);
+    }
+    grown
+}
+
 /// A drawing at random whose pin edges and last column are right: whether it
-/// is a solution rests on the pieces of its nets.
+/// is a solution rests on the pieces and the loose ends of its nets.
 pub fn scribble(rng: &mut Rng, channel: &Channel) -> Drawing {
     let n = channel.top.len();
     let (w, t) = (n + rng.under(3), rng.under(5));

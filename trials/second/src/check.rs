@@ -1,8 +1,8 @@
-//! The checker: refusals 10 to 16 by the grid's rules alone, and the view of
+//! The checker: refusals 10 to 17 by the grid's rules alone, and the view of
 //! one column.
 
 use crate::rows::{nets, Nets};
-use crate::{LIMIT, MOST_COLUMNS, MOST_NETS};
+use crate::{Checked, LIMIT, MOST_COLUMNS, MOST_NETS};
 use std::ops::Range;
 
 /// A drawing: width, tracks and entries.
@@ -81,35 +81,39 @@ impl Drawing<'_> {
     }
 }
 
-/// Number and place of the check of a drawing; (0, 0) for a solution.
-pub fn check(top: &[u16], bottom: &[u16], w: usize, t: usize, entries: &[u16]) -> (u16, usize) {
+/// The check of a drawing; zeros for a solution.
+pub fn check(top: &[u16], bottom: &[u16], w: usize, t: usize, entries: &[u16]) -> Checked {
+    let refused = |number, place| Checked { number, place, ..Checked::default() };
     let nets = match nets(top, bottom, MOST_COLUMNS) {
         Ok(nets) => nets,
-        Err(number) => return (number, 0),
+        Err(number) => return refused(number, 0),
     };
     let n = top.len();
     if w < n || w > LIMIT {
-        return (10, 0);
+        return refused(10, 0);
     }
     if t > LIMIT {
-        return (11, 0);
+        return refused(11, 0);
     }
     if entries.len() != w * (2 * t + 1) {
-        return (12, 0);
+        return refused(12, 0);
     }
     let drawing = Drawing { w, t, entries };
     if let Some(place) = strange_entry(&drawing, &nets) {
-        return (13, place);
+        return refused(13, place);
     }
     if let Some(place) = wrong_pin_edge(&drawing, top, bottom) {
-        return (14, place);
+        return refused(14, place);
     }
-    if let Some(place) = loose_end(&drawing) {
-        return (15, place);
+    if let Some(place) = edge_beyond(&drawing) {
+        return refused(15, place);
     }
-    match broken_net(&drawing) {
-        Some(net) => (16, net as usize),
-        None => (0, 0),
+    if let Some(net) = broken_net(&drawing) {
+        return refused(16, net as usize);
+    }
+    match loose_end(&drawing) {
+        Some((net, (c, row))) => Checked { number: 17, place: net as usize, column: c + 1, row },
+        None => Checked::default(),
     }
 }
 
@@ -135,7 +139,7 @@ fn wrong_pin_edge(drawing: &Drawing, top: &[u16], bottom: &[u16]) -> Option<usiz
 }
 
 /// The lowest position of a horizontal edge in the last column.
-fn loose_end(drawing: &Drawing) -> Option<usize> {
+fn edge_beyond(drawing: &Drawing) -> Option<usize> {
     if drawing.w == 0 {
         return None;
     }
@@ -157,6 +161,22 @@ fn broken_net(drawing: &Drawing) -> Option<u16> {
         let net = net as usize;
         first[net].is_some_and(|at| drawing.piece(at, &mut seen) != count[net])
     })
+}
+
+/// The lowest number of a net with one edge at a grid point on a track, and its
+/// first such point by column and then row.
+fn loose_end(drawing: &Drawing) -> Option<(u16, (usize, usize))> {
+    let mut found: Option<(u16, (usize, usize))> = None;
+    for point in (0..drawing.w).flat_map(|c| (1..=drawing.t).map(move |y| (c, y))) {
+        let met: Vec<u16> = drawing.edges_at(point).iter().map(|&p| drawing.entries[p]).collect();
+        for &net in met.iter().filter(|&&net| net != 0) {
+            let edges = met.iter().filter(|&&other| other == net).count();
+            if edges == 1 && found.is_none_or(|(lowest, _)| net < lowest) {
+                found = Some((net, point));
+            }
+        }
+    }
+    found
 }
 
 /// The part of a layout slice of that length that is column c, counted from 1;

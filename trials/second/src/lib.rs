@@ -1,7 +1,7 @@
 //! A second knock-knee channel router and checker.
 //!
-//! It was written from the scope paper alone and shares no code with the
-//! library. It keeps to the paper's words and does everything in the plainest
+//! It was written from documents 01 and 02 alone and shares no code with the
+//! library. It keeps to their words and does everything in the plainest
 //! way: the state of a sweep is the list of nets on the tracks, and every
 //! question about it is answered by looking through that list.
 
@@ -30,4 +30,14 @@ pub struct Figures {
     pub density: usize,
     pub tracks: usize,
     pub width: usize,
+}
+
+/// The answer of the checker. The place is an entry's position for 13 to 15 and
+/// a net for 16 and 17; column and row are a loose end's.
+#[derive(Clone, Copy, Debug, Default, PartialEq, Eq)]
+pub struct Checked {
+    pub number: u16,
+    pub place: usize,
+    pub column: usize,
+    pub row: usize,
 }

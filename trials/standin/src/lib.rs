@@ -21,6 +21,14 @@ pub struct Routed {
 }
 
 #[repr(C)]
+pub struct Checked {
+    number: u16,
+    place: usize,
+    column: usize,
+    row: usize,
+}
+
+#[repr(C)]
 pub struct Listed {
     number: u16,
     length: usize,
@@ -100,10 +108,13 @@ pub unsafe extern "C" fn gaxwethi_check(
     t: usize,
     layout: *const u16,
     len: usize,
-) -> Figure {
+) -> Checked {
     let (top, bottom) = (from_raw_parts(top, n), from_raw_parts(bottom, m));
-    let (number, value) = baseline::check(top, bottom, w, t, from_raw_parts(layout, len));
-    Figure { number, value }
+    let layout = from_raw_parts(layout, len);
+    match guarded(|| Ok(baseline::check(top, bottom, w, t, layout))) {
+        Ok(c) => Checked { number: c.number, place: c.place, column: c.column, row: c.row },
+        Err(number) => Checked { number, place: 0, column: 0, row: 0 },
+    }
 }
 
 /// # Safety

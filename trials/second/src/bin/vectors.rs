@@ -1,5 +1,5 @@
 //! Compares the second router and checker with files of worked cases:
-//! `vectors FOLDER`, where the folder holds routes.txt, checks.txt and
+//! `vectors FILE ...`, where the names end in routes.txt, checks.txt or
 //! listings.txt. A case ends at an empty line.
 
 use std::process::ExitCode;
@@ -26,16 +26,28 @@ fn route_agrees(case: &[&str]) -> bool {
     got == Ok(wanted)
         && second::density(&top, &bottom) == Ok(wanted.density)
         && drawn[..used] == layout[..]
-        && second::check(&top, &bottom, wanted.width, wanted.tracks, &layout) == (0, 0)
+        && second::check(&top, &bottom, wanted.width, wanted.tracks, &layout)
+            == second::Checked::default()
 }
 
+/// An answer without column and row is from before Job 1, when a loose end
+/// passed; one with them has the numbers of Job 8, which divides 14 into 14, 19
+/// and 20.
 fn check_agrees(case: &[&str]) -> bool {
     let (top, bottom) = (values(case, "top"), values(case, "bottom"));
     let (size, layout) = (values::<isize>(case, "width"), values::<u16>(case, "layout"));
-    let wanted = values::<usize>(case, "number");
+    let mut wanted = values::<usize>(case, "number");
     // A width of -1, one less than no columns, is the largest number here.
     let (w, t) = (size[0] as usize, size[1] as usize);
-    second::check(&top, &bottom, w, t, &layout) == (wanted[0] as u16, wanted[1])
+    let got = second::check(&top, &bottom, w, t, &layout);
+    let (number, place) = (got.number as usize, got.place);
+    if wanted.len() == 2 {
+        return wanted == if number == 17 { [0, 0] } else { [number, place] };
+    }
+    if matches!(wanted[0], 19 | 20) {
+        wanted[0] = 14;
+    }
+    wanted == [number, place, got.column, got.row]
 }
 
 fn listing_agrees(case: &[&str]) -> bool {
@@ -46,24 +58,29 @@ fn listing_agrees(case: &[&str]) -> bool {
     second::printed(&record) == wanted
 }
 
-/// Runs the cases of a file; returns how many there are and how many differ.
-fn run(folder: &str, file: &str, agrees: fn(&[&str]) -> bool) -> (usize, usize) {
-    let path = std::path::Path::new(folder).join(file);
-    let text = std::fs::read_to_string(&path).expect("a file of cases");
+/// Whether a case of a file agrees, by the end of the file's name.
+fn kind(file: &str) -> fn(&[&str]) -> bool {
+    match file {
+        _ if file.ends_with("routes.txt") => route_agrees,
+        _ if file.ends_with("checks.txt") => check_agrees,
+        _ if file.ends_with("listings.txt") => listing_agrees,
+        _ => panic!("{file}: neither routes, checks nor listings"),
+    }
+}
+
+/// Runs the cases of a file; returns whether there are some and all agree.
+fn run(file: &str) -> bool {
+    let text = std::fs::read_to_string(file).expect("a file of cases");
     let lines: Vec<&str> = text.lines().collect();
     let cases: Vec<_> = lines.split(|line| line.is_empty()).filter(|c| !c.is_empty()).collect();
+    let agrees = kind(file);
     let different = cases.iter().filter(|case| !agrees(case)).count();
     println!("{file}: {} cases, {different} different", cases.len());
-    (cases.len(), different)
+    !cases.is_empty() && different == 0
 }
 
 fn main() -> ExitCode {
-    let folder = std::env::args().nth(1).unwrap_or_else(|| "vectors".into());
-    let counts = [
-        run(&folder, "routes.txt", route_agrees),
-        run(&folder, "checks.txt", check_agrees),
-        run(&folder, "listings.txt", listing_agrees),
-    ];
-    let bad = counts.iter().any(|&(all, different)| all == 0 || different > 0);
-    ExitCode::from(bad as u8)
+    let files: Vec<String> = std::env::args().skip(1).collect();
+    let bad = files.iter().filter(|file| !run(file)).count();
+    ExitCode::from((files.is_empty() || bad > 0) as u8)
 }
