@@ -26,8 +26,7 @@ use Rattle.checker.specs.declared.Checked.the-variants.{Passed}
 use Rattle.checker.specs.Check.{numberOf, placeOf, faultColumn, faultRow, checkedBy, least, some, strange, mispinned, leavesLast, split, looseNet}
 use Rattle.checker.specs.Check.{entriesRefused, drawingRefused, refused, place, column, row, checked}
 use Rattle.checker.specs.declared.ends.Loose.{Loose}
-use Rattle.checker.specs.Working.{refusedAt, answerWith, entriesChecked, drawingChecked, PinTable, Within}
-use Rattle.checker.specs.Ends.{refusedLoose, LowestLoose}
+use Rattle.checker.specs.Working.{refusedAt, answerWith, entriesChecked, drawingChecked, PinTable, Within, refusedLoose, LowestLoose}
 use Rattle.checker.proofs.Least.{least-all}
 use Rattle.checker.proofs.entries.Nets.{strange-not}
 

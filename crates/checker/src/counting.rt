@@ -3,8 +3,7 @@
 ghost use mathlib.Core.Path.{_≡_};
 ghost use Prim.Native.Nat.{_+_, _*_, _<_};
 ghost use Rattle.checker.specs.Check.{least, split};
-ghost use Rattle.checker.specs.Working.{inPieces, Within, ColumnAt, seen, Labs, PerNet, CountedTo, CountedAll, Crossings};
-ghost use Rattle.checker.specs.Ends.{ColumnIs, Kept, LowestLoose};
+ghost use Rattle.checker.specs.Working.{inPieces, Within, ColumnAt, seen, Labs, PerNet, CountedTo, CountedAll, Crossings, ColumnIs, Kept, LowestLoose};
 use crate::ends::Loose;
 use crate::ends::keep_point;
 use crate::meeting::begin;

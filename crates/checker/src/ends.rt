@@ -1,8 +1,7 @@
 // Loose ends: refusal 17. Of the nets with a loose end the lowest is kept, with its first: a net below the one kept has had none so far.
 ghost use mathlib.Core.Path.{_≡_};
 ghost use Prim.Native.Nat.{_+_, _<_, min};
-ghost use Rattle.checker.specs.Working.{ColumnAt};
-ghost use Rattle.checker.specs.Ends.{alone, aloneNet, lowestAlone, lowestPoint, ColumnIs, Kept};
+ghost use Rattle.checker.specs.Working.{ColumnAt, alone, aloneNet, lowestAlone, lowestPoint, ColumnIs, Kept};
 use crate::entries::entry;
 
 // A net with a loose end, 257 for none, and the column and row of its first, counted from 1.

@@ -10,8 +10,7 @@ ghost use mathlib.Core.Path.{_≡_};
 ghost use Prim.Native.Nat.{_+_, _*_, _≤_};
 ghost use lib.ListN.{length};
 ghost use Rattle.checker.specs.Check.{numberOf, placeOf, faultColumn, faultRow, refused, place, column, row, checked};
-ghost use Rattle.checker.specs.Working.{refusedAt, entriesChecked, drawingChecked, PinTable};
-ghost use Rattle.checker.specs.Ends.{refusedLoose};
+ghost use Rattle.checker.specs.Working.{refusedAt, entriesChecked, drawingChecked, PinTable, refusedLoose};
 
 // The number of a refusal, and its place: of 13 to 15 the lowest entry position, from 0, of 16 and 17 the lowest net number, else 0. Of 17 also the column
 // and row of that net's first loose end, counted from 1, else 0.

@@ -9,7 +9,7 @@ use native.Mathlib.Decide.{decLe}
 use Rattle.grid.specs.Channel.{pick, bit}
 use Rattle.grid.specs.Grid.{edgesAmong}
 use Rattle.grid.proofs.Tests.{Same, same, sameBy, eq-eqb, eqb-false, eqb-same, eqb-diff, not-true, and-true, and-none}
-use Rattle.checker.specs.Ends.{alone, aloneNet, lowestAlone}
+use Rattle.checker.specs.Working.{alone, aloneNet, lowestAlone}
 
 -- equal entries count alike
 alike : (x y N : ℕ) → x ≡ y → bit (eqb x N) ≡ bit (eqb y N)

@@ -11,8 +11,7 @@ use Rattle.pieces.specs.Labels.{netOf}
 use Rattle.checker.specs.declared.ends.Loose.{Loose}
 use Rattle.checker.specs.Check.{least, looseNet, looseColumn, looseTrack}
 use Rattle.checker.specs.Faults.{Before}
-use Rattle.checker.specs.Working.{Within, Crossing, Crossings}
-use Rattle.checker.specs.Ends.{lowestPoint, ColumnIs, Clean, FirstKept, Kept, LowestLoose}
+use Rattle.checker.specs.Working.{Within, Crossing, Crossings, lowestPoint, ColumnIs, Clean, FirstKept, Kept, LowestLoose}
 use Rattle.checker.proofs.Least.{NoneBelow, found-at, found-none}
 use Rattle.checker.proofs.counting.Positions.{NextColumn, next-column}
 use Rattle.checker.proofs.ends.Alone.{none-crossing, below-lowest, lowest-own}

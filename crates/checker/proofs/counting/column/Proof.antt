@@ -2,8 +2,7 @@
 use Prim.Native.Nat.{_≤_, _-_}
 use mathlib.Core.Path.{refl}
 use native.Mathlib.Omega.{arith}
-use Rattle.checker.specs.Working.{State}
-use Rattle.checker.specs.Ends.{Kept}
+use Rattle.checker.specs.Working.{State, Kept}
 use Rattle.checker.proofs.counting.Counts.{per-net-mono}
 use Rattle.checker.proofs.counting.Positions.{room}
 use Rattle.checker.proofs.counting.Crossing.{crossings-state}

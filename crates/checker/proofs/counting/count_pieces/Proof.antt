@@ -2,7 +2,7 @@
 use Prim.Native.Nat.{ℕ, _-_}
 use native.Mathlib.Omega.{arith}
 use lib.ListN.{length-replicate}
-use Rattle.checker.specs.Ends.{Kept}
+use Rattle.checker.specs.Working.{Kept}
 use Rattle.checker.proofs.counting.Pass.{ColumnsPassed, pass-start, pass-column, pass-small, pass-next, pass-end}
 use Rattle.checker.proofs.ends.Kept.{next-is, kept-none, kept-all}
 use Rattle.checker.proofs.counting.count_pieces.Statement.{statement}

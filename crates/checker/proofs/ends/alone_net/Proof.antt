@@ -1,7 +1,7 @@
 -- `checker::ends::alone_net` meets its contract: the entry's net if it is alone, else 257.
 use mathlib.Core.Path.{sym, _∙_}
 use borrow.Author.Needs.{needs}
-use Rattle.checker.specs.Ends.{aloneNet}
+use Rattle.checker.specs.Working.{aloneNet}
 use Rattle.checker.proofs.ends.alone_net.Statement.{statement}
 use Rattle.checker.proofs.ends.alone_net.Tie as tie
 

@@ -1,6 +1,6 @@
 -- `checker::ends::lowest_alone` meets its contract: nets only cross, or the least of the four.
 use borrow.Author.Needs.{needs}
-use Rattle.checker.specs.Ends.{lowestAlone}
+use Rattle.checker.specs.Working.{lowestAlone}
 use Rattle.checker.proofs.ends.Alone.{alone-crossing}
 use Rattle.checker.proofs.ends.lowest_alone.Statement.{statement}
 use Rattle.checker.proofs.ends.lowest_alone.Tie as tie

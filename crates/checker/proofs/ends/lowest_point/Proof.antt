@@ -1,7 +1,7 @@
 -- `checker::ends::lowest_point` meets its contract: the four entries are read.
 use native.Mathlib.Omega.{arith}
 use borrow.Author.Needs.{needs}
-use Rattle.checker.specs.Ends.{lowestPoint}
+use Rattle.checker.specs.Working.{lowestPoint}
 use Rattle.checker.proofs.counting.Positions.{room, small-right, small-left}
 use Rattle.checker.proofs.ends.lowest_point.Statement.{statement}
 use Rattle.checker.proofs.ends.lowest_point.Tie as tie
