@@ -3,5 +3,7 @@ pub mod Arrays
 pub mod Tests
 pub mod Clauses
 pub mod Records
+pub mod Tallies
+pub mod WireLengths
 pub mod Answers
 pub mod Contents

@@ -5,18 +5,20 @@ use mathlib.Core.List.{List, [], _∷_, _++_, append-nil}
 use native.Mathlib.Omega.{arith}
 use native.Mathlib.Numerals.{add-one}
 use lib.ListN.{length, take, drop, getD, set, length-append, length-drop}
-use lib.Seq.{take-suc, take-all, length-take-le, drop-cons, append-snoc, set-at}
+use lib.Seq.{take-suc, length-take-le, drop-cons, append-snoc, set-at}
 use Rattle.grid.specs.Channel.{pins}
 use Rattle.grid.specs.Nets.{firstColumn, lastColumn, table}
 use Rattle.grid.specs.Refusals.{ifAccepted}
+use Rattle.grid.specs.Working.{ByNet}
 use Rattle.grid.proofs.Tables.{table-at}
 use Rattle.grid.proofs.Answers.{accepted-new}
 use Rattle.report.specs.declared.NetRecord.{NetRecord}
-use Rattle.report.specs.Report.{upTo, records, recordOf, blankTable}
+use Rattle.report.specs.declared.Drawing.{Drawing}
+use Rattle.report.specs.Report.{upTo, lengthIn, records, recordOf, blankTable}
 use Rattle.report.specs.Working.{inTables}
 
 abbrev pub zeroRecord : NetRecord
-zeroRecord = record { first = 0; last = 0; pins = 0 }
+zeroRecord = record { first = 0; last = 0; pins = 0; length = 0 }
 
 -- WRITTEN FROM THE FRONT
 
@@ -47,11 +49,6 @@ module _ (xs ys : List NetRecord) where
       one-more zeroRecord (take m xs) ys m (length-take-le m xs (omega arith)) (getD xs m zeroRecord) b
       ∙ ap (λ (l : List NetRecord). l ++ drop (m + 1) ys) (sym (take-suc xs m zeroRecord a) ∙ ap (λ (k : ℕ). take k xs) (sym (add-one m)))
 
-  -- all
-  pub copied-all : (m : ℕ) → length xs ≡ m → copied xs m ys ≡ xs ++ drop m ys
-  unfolding copied
-  copied-all m e = ap (λ (l : List NetRecord). l ++ drop m ys) (take-all m xs (omega arith))
-
   -- the list keeps its length
   pub length-copied : (m : ℕ) → m ≤ length xs → m ≤ length ys → length (copied xs m ys) ≡ length ys
   unfolding copied
@@ -75,6 +72,11 @@ pub blank-long : length blankTable ≡ 256
 unfolding blankTable
 blank-long = refl
 
+-- and none behind them
+pub blank-behind : drop 256 blankTable ≡ []
+unfolding blankTable
+blank-behind = refl
+
 -- the records of the nets 1 to k in front of a table of zeros, and one more
 pub stored : (f : ℕ → NetRecord) (out : List NetRecord) (k : ℕ) (r : NetRecord) → k < 256 → out ≡ upTo f k ++ drop k blankTable → r ≡ f (k + 1)
     → set out k r ≡ upTo f (k + 1) ++ drop (k + 1) blankTable
@@ -93,14 +95,22 @@ unfolding upTo
 upTo-same f g zero h = refl
 upTo-same f g (suc k) h = cc (upTo-same f g k (λ v a b. h v a (omega arith)), h (suc k) (omega arith) (omega arith))
 
--- the records from the tables that the row check with the number n leaves of accepted rows are the channel's
-pub gathered : (top bottom : List ℕ) (n k : ℕ) → n ≡ k → k ≡ 0 → (first last counts f l p : List ℕ) → first ≡ ifAccepted n (table (firstColumn top bottom)) f
-    → last ≡ ifAccepted n (table (lastColumn top bottom)) l → counts ≡ ifAccepted n (table (pins top bottom)) p → upTo (inTables first last counts) 256 ≡ records top bottom
+-- the records of a channel are 256
+pub records-long : (top bottom : List ℕ) (drawing : Drawing) (D : List ℕ) → length (records top bottom drawing D) ≡ 256
 unfolding records
-gathered top bottom n k i e first last counts f l p a b d = upTo-same (inTables first last counts) (recordOf top bottom) 256 at
+records-long top bottom drawing D = length-upTo (recordOf top bottom drawing D) 256
+
+-- the records from the tables that the row check with the number n leaves of accepted rows, and from the lengths, are the channel's
+pub gathered : (top bottom : List ℕ) (drawing : Drawing) (D : List ℕ) (n k : ℕ) → n ≡ k → k ≡ 0 → (first last counts lengths f l p : List ℕ)
+    → first ≡ ifAccepted n (table (firstColumn top bottom)) f → last ≡ ifAccepted n (table (lastColumn top bottom)) l
+    → counts ≡ ifAccepted n (table (pins top bottom)) p → ByNet (lengthIn drawing D) lengths
+    → upTo (inTables first last counts lengths) 256 ≡ records top bottom drawing D
+unfolding records
+gathered top bottom drawing D n k i e first last counts lengths f l p a b d m = upTo-same (inTables first last counts lengths) (recordOf top bottom drawing D) 256 at
   where
     figure : (g : ℕ → ℕ) (x old : List ℕ) (v : ℕ) → 1 ≤ v → v ≤ 256 → x ≡ ifAccepted n (table g) old → getD x v 0 ≡ g v
     figure g x old v h k z = ap (λ (y : List ℕ). getD y v 0) (z ∙ accepted-new n (table g) old (i ∙ e)) ∙ table-at g v h k
 
-    at : (v : ℕ) → 1 ≤ v → v ≤ 256 → inTables first last counts v ≡ recordOf top bottom v
-    at v h k = cc (figure (firstColumn top bottom) first f v h k a, figure (lastColumn top bottom) last l v h k b, figure (pins top bottom) counts p v h k d)
+    at : (v : ℕ) → 1 ≤ v → v ≤ 256 → inTables first last counts lengths v ≡ recordOf top bottom drawing D v
+    at v h k =
+        cc (figure (firstColumn top bottom) first f v h k a, figure (lastColumn top bottom) last l v h k b, figure (pins top bottom) counts p v h k d, m .at v h k)

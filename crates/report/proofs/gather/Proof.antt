@@ -12,10 +12,10 @@ use Rattle.report.proofs.gather.Statement.{statement}
 use Rattle.report.proofs.gather.Tie as tie
 
 abbrev Inv-loop : tie.InvT-loop
-Inv-loop first last pins out₀ k₀ out k = (k ≤ 256) × (out ≡ upTo (inTables first last pins) k ++ drop k blankTable)
+Inv-loop first last pins lengths out₀ k₀ out k = (k ≤ 256) × (out ≡ upTo (inTables first last pins lengths) k ++ drop k blankTable)
 
 abbrev μ-loop : tie.MeasureT-loop
-μ-loop first last pins out₀ k₀ out k = 256 - k
+μ-loop first last pins lengths out₀ k₀ out k = 256 - k
 
 blank-requires : tie.Need-blank-requires Inv-loop μ-loop
 blank-requires c κs = search needs
@@ -43,13 +43,13 @@ loop-again : tie.Need-loop-again Inv-loop μ-loop
 loop-again c =
     let b = c .before .before in
     let a = b .before .before .args in
-    (omega arith, stored (inTables (a .first .now) (a .last .now) (a .pins .now)) (b .loop .out) (b .loop .k) (c .record-of .result) (omega arith) (b .loop .inv .1) (c .record-of .ensures))
+    (omega arith, stored (inTables (a .first .now) (a .last .now) (a .pins .now) (a .lengths .now)) (b .loop .out) (b .loop .k) (c .record-of .result) (omega arith) (b .loop .inv .1) (c .record-of .ensures))
 
 returns : tie.Need-returns Inv-loop μ-loop
 returns c =
     let b = c .before in
     let a = b .before .before .args in
-    stored-all (inTables (a .first .now) (a .last .now) (a .pins .now)) (b .loop .out) (b .loop .k) (omega arith) (b .loop .inv .1)
+    stored-all (inTables (a .first .now) (a .last .now) (a .pins .now) (a .lengths .now)) (b .loop .out) (b .loop .k) (omega arith) (b .loop .inv .1)
 
 pub gather-spec : {M : Type 1} → statement M
 gather-spec =

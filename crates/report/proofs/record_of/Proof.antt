@@ -4,23 +4,29 @@ use borrow.Author.Needs.{needs}
 use Rattle.report.proofs.record_of.Statement.{statement}
 use Rattle.report.proofs.record_of.Tie as tie
 
-mul-t5 : tie.Need-mul-t5
-mul-t5 c = search needs
+mul-t6 : tie.Need-mul-t6
+mul-t6 c = search needs
 
-element-copy-out-t8 : tie.Need-element-copy-out-t8
-element-copy-out-t8 c = search needs
+element-copy-out-t9 : tie.Need-element-copy-out-t9
+element-copy-out-t9 c = search needs
 
-mul-t9 : tie.Need-mul-t9
-mul-t9 c = search needs
+mul-t10 : tie.Need-mul-t10
+mul-t10 c = search needs
 
-element-copy-out-t12 : tie.Need-element-copy-out-t12
-element-copy-out-t12 c = search needs
+element-copy-out-t13 : tie.Need-element-copy-out-t13
+element-copy-out-t13 c = search needs
 
-mul-t13 : tie.Need-mul-t13
-mul-t13 c = search needs
+mul-t14 : tie.Need-mul-t14
+mul-t14 c = search needs
 
-element-copy-out-t16 : tie.Need-element-copy-out-t16
-element-copy-out-t16 c = search needs
+element-copy-out-t17 : tie.Need-element-copy-out-t17
+element-copy-out-t17 c = search needs
+
+mul-t18 : tie.Need-mul-t18
+mul-t18 c = search needs
+
+element-copy-out-t21 : tie.Need-element-copy-out-t21
+element-copy-out-t21 c = search needs
 
 returns : tie.Need-returns
 returns c = refl
@@ -29,10 +35,12 @@ pub record-of-spec : {M : Type 1} → statement M
 record-of-spec =
     tie.close
     (tie.spec
-    mul-t5
-    element-copy-out-t8
-    mul-t9
-    element-copy-out-t12
-    mul-t13
-    element-copy-out-t16
+    mul-t6
+    element-copy-out-t9
+    mul-t10
+    element-copy-out-t13
+    mul-t14
+    element-copy-out-t17
+    mul-t18
+    element-copy-out-t21
     returns)
