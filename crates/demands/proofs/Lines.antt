@@ -128,9 +128,13 @@ module _ (top bottom : List ℕ) where
   layout-numbered lent = (omega arith, tt)
 
 -- NET TABLE
-pub table-first : (lent : ℕ) → First (ofNetTable lent) (pick (ltb lent 256) 9 0)
-unfolding First
-table-first lent = by-test (ltb lent 256) 9 0 end (ltb-true lent 256) (less lent 256) (λ e. refl)
+pub table-lines : (lent x : ℕ) (rest : Table) → First rest x → First (ofNetTable lent rest) (firstRefusal (pick (ltb lent 256) 9 0) x)
+table-lines lent x rest f =
+    subst (λ (k : ℕ). First (ofNetTable lent rest) k) (sym (after-table (ltb lent 256))) (by-test (ltb lent 256) 9 x rest (ltb-true lent 256) (less lent 256) (λ e. f))
+  where
+    after-table : (a : Bool) → firstRefusal (pick a 9 0) x ≡ pick a 9 x
+    after-table true = refl
+    after-table false = refl
 
 -- RECORD, then the places after it
 module _ (s : List ℕ) where

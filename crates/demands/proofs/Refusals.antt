@@ -1,16 +1,20 @@
 -- The first demand is met: the numbers, the zeros and the places. Assumes nothing.
 use Prim.Native.Nat.{ℕ, _≤_, _<_, min}
-use mathlib.Core.Path.{refl, sym, subst, _∙_}
+use mathlib.Core.Path.{_≡_, refl, sym, subst, ap, _∙_}
 use mathlib.Core.Logic.{_⊎_}
 use mathlib.Core.List.{List}
 use native.Mathlib.Omega.{arith}
 use lib.ListN.{length}
+use Rattle.grid.specs.Channel.{rowsRefused}
 use Rattle.grid.specs.Answers as counting
 use Rattle.grid.proofs.Answers.{check-number, check-figures, density-number, density-figure, accepted-old, no-later}
 use Rattle.router.specs.Answers as routing
 use Rattle.router.proofs.Answered.{need-number, need-entries, answer-number, answer-figures}
+use Rattle.checker.specs.declared.Fault.{Fault}
 use Rattle.checker.specs.Check as checking
 use Rattle.checker.proofs.Answers.{check-parts, no-place-else, no-point-else}
+use Rattle.report.specs.declared.Drawing.{Drawing}
+use Rattle.report.specs.declared.Drawing.the-variants.{Absent, Given}
 use Rattle.report.specs.Report as reporting
 use Rattle.report.proofs.Answers as report
 use Rattle.record.specs.Record as reading
@@ -18,9 +22,9 @@ use Rattle.record.specs.Record.{topRow, bottomRow}
 use Rattle.record.proofs.Refusals.{numbered, columns-by}
 use Rattle.listing.specs.Listing as listing
 use Rattle.listing.proofs.Records.{listed-number, listed-length}
-use Rattle.demands.specs.Table.{First, end, ofRecord, ofRows, ofLayout, ofNetTable, ofDrawing}
-use Rattle.demands.specs.Refusals.{Refuses, RefusesRecord, Zeros, ZerosRecord, Places, LooseEnds}
-use Rattle.demands.proofs.Lines.{rows-lines, rows-first, layout-first, table-first, record-lines}
+use Rattle.demands.specs.Table.{First, end, ofRecord, ofRows, ofLayout, ofNetTable, ofDrawing, ofReported}
+use Rattle.demands.specs.Refusals.{Refuses, RefusesRecord, Zeros, ZerosRecord, Places, LooseEnds, ReportsFaults}
+use Rattle.demands.proofs.Lines.{rows-lines, rows-first, layout-first, table-lines, record-lines}
 use Rattle.demands.proofs.Drawings.{drawing-lines, strange-least, pin-least, last-least, split-least, loose-least, loose-point}
 
 -- THE NUMBERS
@@ -36,9 +40,16 @@ module _ (top bottom : List ℕ) where
       subst (λ (k : ℕ). First (ofRows top bottom (min most 256) (ofLayout top bottom lent)) k) (sym (answer-number top bottom most lent))
       (rows-lines top bottom (min most 256) (within most) _ _ (λ e. layout-first top bottom lent))
 
-  report-first : (lent : ℕ) → First (ofRows top bottom 256 (ofNetTable lent)) (reporting.refused top bottom lent)
+  -- the lines of a report's drawing
+  reported-lines : rowsRefused top bottom 256 ≡ 0 → (drawing : Drawing) (D : List ℕ) → First (ofReported top bottom drawing D) (reporting.drawingNumber top bottom drawing D)
+  unfolding First
+  reported-lines e Absent D = refl
+  reported-lines e (Given w t) D = drawing-lines top bottom w t D e
+
+  report-first : (drawing : Drawing) (D : List ℕ) (lent : ℕ)
+      → First (ofRows top bottom 256 (ofNetTable lent (ofReported top bottom drawing D))) (reporting.refused top bottom drawing D lent)
   unfolding reporting.refused
-  report-first lent = rows-lines top bottom 256 (omega arith) _ _ (λ e. table-first lent)
+  report-first drawing D lent = rows-lines top bottom 256 (omega arith) _ _ (λ e. table-lines lent _ _ (reported-lines e drawing D))
 
   check-first : (w t : ℕ) (D : List ℕ) → First (ofRows top bottom 256 (ofDrawing top bottom w t D)) (checking.refused top bottom w t D)
   unfolding checking.refused
@@ -56,8 +67,9 @@ module _ (top bottom : List ℕ) where
         route = route-first;
         check = λ w t D.
             subst (λ (k : ℕ). First (ofRows top bottom 256 (ofDrawing top bottom w t D)) k) (sym (check-parts top bottom w t D .0)) (check-first w t D);
-        report = λ table.
-            subst (λ (k : ℕ). First (ofRows top bottom 256 (ofNetTable (length table))) k) (sym (report.number top bottom table)) (report-first (length table));
+        report = λ drawing D lent.
+            subst (λ (k : ℕ). First (ofRows top bottom 256 (ofNetTable lent (ofReported top bottom drawing D))) k) (sym (report.number top bottom drawing D lent))
+            (report-first drawing D lent);
       }
 
   -- THE ZEROS
@@ -90,6 +102,17 @@ module _ (top bottom : List ℕ) where
       record {
         first = λ e. loose-point top bottom w t D _ (sym n ∙ e) p _ _ c r;
         other = λ o. let (i, j) = no-point-else top bottom w t D _ (λ z. o (n ∙ z)) in (c ∙ i, r ∙ j);
+      }
+
+  -- THE REPORT ON A DRAWING
+  pub reports-faults : (w t : ℕ) (D : List ℕ) (lent : ℕ) → ReportsFaults top bottom w t D lent
+  reports-faults w t D lent =
+      let (n, p, c, r) = check-parts top bottom w t D in
+      let e = report.own-fault top bottom w t D lent in
+      let z = report.short-fault top bottom (Given w t) D lent in
+      record {
+        own = λ h. (ap (λ (f : Fault). f .number) (e h) ∙ sym n, ap (λ (f : Fault). f .place) (e h) ∙ sym p, ap (λ (f : Fault). f .column) (e h) ∙ sym c, ap (λ (f : Fault). f .row) (e h) ∙ sym r);
+        short = λ h. (ap (λ (f : Fault). f .place) (z h), ap (λ (f : Fault). f .column) (z h), ap (λ (f : Fault). f .row) (z h));
       }
 
 -- A RECORD

@@ -16,34 +16,57 @@ use Rattle.grid.specs.Answers as counting
 use Rattle.grid.proofs.Answers.{accepted-new, accepted-old}
 use Rattle.grid.proofs.Views.{part-end, too-wide, too-tall, wrong-size, no-column, past-last, found}
 use Rattle.router.proofs.Answered.{answer-number, written-refused, written-drawn}
+use Rattle.report.specs.declared.NetRecord.{NetRecord}
+use Rattle.report.specs.declared.Drawing.{Drawing}
+use Rattle.report.specs.declared.Drawing.the-variants.{Absent, Given}
 use Rattle.report.specs.Report as reporting
 use Rattle.report.proofs.Answers as report
-use Rattle.report.proofs.Contents.{record-at, record-kept, unused}
+use Rattle.report.proofs.Contents.{record-at, record-kept, table-lengths, unused}
 use Rattle.record.specs.Record as reading
 use Rattle.record.specs.Record.{topRow, bottomRow, laid}
 use Rattle.listing.specs.Listing as listing
 use Rattle.listing.proofs.Records.{listed-number, output-text, output-line}
-use Rattle.demands.specs.Slices.{LeavesSlices, LeavesRecord, NoColumn, Shows}
+use Rattle.demands.specs.Slices.{LeavesSlices, LeavesRecords, LeavesLengths, LeavesRecord, NoColumn, Shows}
 
 -- for all rows
 pub leaves : (top bottom : List ℕ) → LeavesSlices top bottom
 leaves top bottom =
     record {
       routeRefused = λ most old n. written-refused top bottom most old (λ z. n (answer-number top bottom most (length old) ∙ z));
-      reportRefused = λ old n.
-          sym (report.table-of-refusal top bottom old (reporting.numberOf (reporting.reported top bottom old)) (report.number top bottom old) n);
+      reportRefused = λ drawing D old n. report.table-of-refusal top bottom drawing D old (λ z. n (report.number top bottom drawing D (length old) ∙ z));
       factsRefused = λ most old n.
           let k = counting.numberOf (counting.rowCheck top bottom most) in
           (accepted-old k (table (firstColumn top bottom)) old n, accepted-old k (table (lastColumn top bottom)) old n, accepted-old k (table (pins top bottom)) old n);
       routeDrawn = λ most old e. written-drawn top bottom most old (sym (answer-number top bottom most (length old)) ∙ e);
-      reportFilled = λ old e. sym (report.table-filled top bottom old (reporting.numberOf (reporting.reported top bottom old)) (report.number top bottom old) e);
+      reportFilled = λ drawing D old e. report.table-filled top bottom drawing D old (sym (report.number top bottom drawing D (length old)) ∙ e);
       factsFilled = λ most old e.
           let k = counting.numberOf (counting.rowCheck top bottom most) in
           (accepted-new k (table (firstColumn top bottom)) old e, accepted-new k (table (lastColumn top bottom)) old e, accepted-new k (table (pins top bottom)) old e);
-      reportRecord = λ old d e. record-at top bottom old d (sym (report.number top bottom old) ∙ e);
-      reportUnused = unused top bottom;
-      reportKept = record-kept top bottom;
     }
+
+-- for all tables of records
+module _ (top bottom : List ℕ) (old : List NetRecord) (d : NetRecord) where
+  -- an accepted report
+  let-through : (drawing : Drawing) (D : List ℕ) → reporting.numberOf (reporting.reported top bottom drawing D (length old)) ≡ 0
+      → reporting.refused top bottom drawing D (length old) ≡ 0
+  let-through drawing D e = sym (report.number top bottom drawing D (length old)) ∙ e
+
+  pub leaves-records : (drawing : Drawing) (D : List ℕ) → LeavesRecords top bottom drawing D old d
+  leaves-records drawing D =
+      record {
+        each = λ e. record-at top bottom drawing D old d (let-through drawing D e);
+        unused = λ e.
+            let (r, l, p) = report.let-through top bottom drawing D (length old) (let-through drawing D e) in
+            unused top bottom drawing D r p;
+        kept = record-kept top bottom drawing D old d;
+      }
+
+  pub leaves-lengths : LeavesLengths top bottom old d
+  leaves-lengths =
+      record {
+        without = λ D e k h. ap (λ (r : NetRecord). r .length) (record-at top bottom Absent D old d (let-through Absent D e) k h);
+        addUp = λ w t D e. table-lengths top bottom w t D old d (let-through (Given w t) D e);
+      }
 
 -- for all bytes
 pub leaves-record : (s : List ℕ) → LeavesRecord s

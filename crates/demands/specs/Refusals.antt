@@ -1,20 +1,20 @@
 -- The first demand: every call takes all numbers and lengths, stops, and refuses with the first number of the table that applies. That each call stops and
 -- answers by these definitions, for all arguments, is its own promise.
-use Prim.Native.Nat.{ℕ, _<_, min}
+use Prim.Native.Nat.{ℕ, _≤_, _<_, min}
 use mathlib.Core.Path.{_≡_}
 use mathlib.Core.Logic.{_≢_, _⊎_}
 use mathlib.Core.List.{List}
-use lib.ListN.{length}
 use Rattle.grid.specs.Answers as counting
 use Rattle.router.specs.Answers as routing
 use Rattle.checker.specs.Check as checking
-use Rattle.report.specs.declared.NetRecord.{NetRecord}
+use Rattle.report.specs.declared.Drawing.{Drawing}
+use Rattle.report.specs.declared.Drawing.the-variants.{Given}
 use Rattle.report.specs.Report as reporting
 use Rattle.record.specs.Record as reading
 use Rattle.record.specs.Record.{topRow, bottomRow}
 use Rattle.listing.specs.Listing as listing
 use Rattle.checker.specs.Faults.{Strange, PinWrong, LeavesLast, Split, LooseEnd, FirstLoose}
-use Rattle.demands.specs.Table.{First, end, ofRecord, ofRows, ofLayout, ofNetTable, ofDrawing, Least}
+use Rattle.demands.specs.Table.{First, end, ofRecord, ofRows, ofLayout, ofNetTable, ofDrawing, ofReported, Least}
 
 -- THE FIRST NUMBER THAT APPLIES, call by call: of the calls on rows, `most` a limit of columns and `lent` the length of a slice
 pub record Refuses (top bottom : List ℕ) : Type 0 where
@@ -25,7 +25,10 @@ pub record Refuses (top bottom : List ℕ) : Type 0 where
   pub route : (most lent : ℕ) → First (ofRows top bottom (min most 256) (ofLayout top bottom lent)) (routing.numberOf (routing.answer top bottom most lent))
   pub check :
       (w t : ℕ) (D : List ℕ) → First (ofRows top bottom 256 (ofDrawing top bottom w t D)) (checking.numberOf (checking.checked top bottom w t D))
-  pub report : (table : List NetRecord) → First (ofRows top bottom 256 (ofNetTable (length table))) (reporting.numberOf (reporting.reported top bottom table))
+  -- the net report, with or without a drawing: "unless 9 comes first, the checker's own refusal comes back"
+  pub report :
+      (drawing : Drawing) (D : List ℕ) (lent : ℕ)
+      → First (ofRows top bottom 256 (ofNetTable lent (ofReported top bottom drawing D))) (reporting.numberOf (reporting.reported top bottom drawing D lent))
 
 -- of the calls on a record's bytes
 pub record RefusesRecord (s : List ℕ) : Type 0 where
@@ -67,3 +70,17 @@ pub record LooseEnds (top bottom : List ℕ) (w t : ℕ) (D : List ℕ) : Type 0
   pub other :
       checking.numberOf (checking.checked top bottom w t D) ≢ 17
       → (checking.faultColumn (checking.checked top bottom w t D) ≡ 0) × (checking.faultRow (checking.checked top bottom w t D) ≡ 0)
+
+-- document 02, Job 2: "the checker's own refusal comes back" from the report on a drawing, into a table of `lent` records
+pub record ReportsFaults (top bottom : List ℕ) (w t : ℕ) (D : List ℕ) (lent : ℕ) : Type 0 where
+  -- with a table that is long enough: the checker's number, place, column and row
+  pub own : 256 ≤ lent
+      → (reporting.numberOf (reporting.reported top bottom (Given w t) D lent) ≡ checking.numberOf (checking.checked top bottom w t D))
+      × (reporting.faultOf (reporting.reported top bottom (Given w t) D lent) .place ≡ checking.placeOf (checking.checked top bottom w t D))
+      × (reporting.faultOf (reporting.reported top bottom (Given w t) D lent) .column ≡ checking.faultColumn (checking.checked top bottom w t D))
+      × (reporting.faultOf (reporting.reported top bottom (Given w t) D lent) .row ≡ checking.faultRow (checking.checked top bottom w t D))
+  -- with a shorter one: the rows' number or 9, without a place
+  pub short : lent < 256
+      → (reporting.faultOf (reporting.reported top bottom (Given w t) D lent) .place ≡ 0)
+      × (reporting.faultOf (reporting.reported top bottom (Given w t) D lent) .column ≡ 0)
+      × (reporting.faultOf (reporting.reported top bottom (Given w t) D lent) .row ≡ 0)

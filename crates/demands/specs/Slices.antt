@@ -5,7 +5,7 @@ use mathlib.Core.Path.{_≡_}
 use mathlib.Core.Logic.{_≢_, _⊎_}
 use mathlib.Core.List.{List, [], _++_}
 use lib.ListN.{length, drop, getD}
-use Rattle.grid.specs.Channel.{pins}
+use Rattle.grid.specs.Channel.{sum, pins}
 use Rattle.grid.specs.Nets.{firstColumn, lastColumn, table}
 use Rattle.grid.specs.Refusals.{ifAccepted}
 use Rattle.grid.specs.Answers as counting
@@ -14,6 +14,9 @@ use Rattle.grid.specs.View.{columnView}
 use Rattle.router.specs.Answers.{layout}
 use Rattle.router.specs.Answers as routing
 use Rattle.report.specs.declared.NetRecord.{NetRecord}
+use Rattle.report.specs.declared.Drawing.{Drawing}
+use Rattle.report.specs.declared.Drawing.the-variants.{Absent, Given}
+use Rattle.report.specs.Length.{edgesDrawn}
 use Rattle.report.specs.Report as reporting
 use Rattle.record.specs.Record as reading
 use Rattle.record.specs.Record.{topRow, bottomRow, laid}
@@ -28,7 +31,8 @@ factAfter top bottom f most old = ifAccepted (counting.numberOf (counting.rowChe
 pub record LeavesSlices (top bottom : List ℕ) : Type 0 where
   -- "A refused call writes to no lent slice or table": routing, the net report, and the three tables of the net facts
   pub routeRefused : (most : ℕ) (old : List ℕ) → routing.numberOf (routing.answer top bottom most (length old)) ≢ 0 → routing.written top bottom most old ≡ old
-  pub reportRefused : (old : List NetRecord) → reporting.numberOf (reporting.reported top bottom old) ≢ 0 → reporting.tableAfter top bottom old ≡ old
+  pub reportRefused : (drawing : Drawing) (D : List ℕ) (old : List NetRecord) → reporting.numberOf (reporting.reported top bottom drawing D (length old)) ≢ 0
+      → reporting.tableAfter top bottom drawing D old ≡ old
   pub factsRefused : (most : ℕ) (old : List ℕ) → counting.numberOf (counting.rowCheck top bottom most) ≢ 0
       → (factAfter top bottom (firstColumn top bottom) most old ≡ old)
       × (factAfter top bottom (lastColumn top bottom) most old ≡ old)
@@ -36,17 +40,31 @@ pub record LeavesSlices (top bottom : List ℕ) : Type 0 where
   -- an accepted one writes the drawing, the 256 records, or the tables, and keeps what stands behind
   pub routeDrawn : (most : ℕ) (old : List ℕ) → routing.numberOf (routing.answer top bottom most (length old)) ≡ 0
       → routing.written top bottom most old ≡ layout top bottom ++ drop (length (layout top bottom)) old
-  pub reportFilled : (old : List NetRecord) → reporting.numberOf (reporting.reported top bottom old) ≡ 0
-      → reporting.tableAfter top bottom old ≡ reporting.records top bottom ++ drop 256 old
+  pub reportFilled : (drawing : Drawing) (D : List ℕ) (old : List NetRecord) → reporting.numberOf (reporting.reported top bottom drawing D (length old)) ≡ 0
+      → reporting.tableAfter top bottom drawing D old ≡ reporting.records top bottom drawing D ++ drop 256 old
   pub factsFilled : (most : ℕ) (old : List ℕ) → counting.numberOf (counting.rowCheck top bottom most) ≡ 0
       → (factAfter top bottom (firstColumn top bottom) most old ≡ table (firstColumn top bottom))
       × (factAfter top bottom (lastColumn top bottom) most old ≡ table (lastColumn top bottom))
       × (factAfter top bottom (pins top bottom) most old ≡ table (pins top bottom))
-  -- the net report has "one per number 1 to 256", "zeros for an unused number"; "Records after the 256th keep their contents"
-  pub reportRecord : (old : List NetRecord) (d : NetRecord) → reporting.numberOf (reporting.reported top bottom old) ≡ 0
-      → (k : ℕ) → k < 256 → getD (reporting.tableAfter top bottom old) k d ≡ reporting.recordOf top bottom (k + 1)
-  pub reportUnused : (v : ℕ) → v ≢ 0 → pins top bottom v ≡ 0 → reporting.recordOf top bottom v ≡ record { first = 0; last = 0; pins = 0 }
-  pub reportKept : (old : List NetRecord) (d : NetRecord) (k : ℕ) → 256 ≤ k → getD (reporting.tableAfter top bottom old) k d ≡ getD old k d
+
+-- THE RECORDS that an accepted net report leaves in a table that held `old`; d serves for what lies past the table's end
+pub record LeavesRecords (top bottom : List ℕ) (drawing : Drawing) (D : List ℕ) (old : List NetRecord) (d : NetRecord) : Type 0 where
+  -- "one per number 1 to 256", "zeros for an unused number"
+  pub each : reporting.numberOf (reporting.reported top bottom drawing D (length old)) ≡ 0
+      → (k : ℕ) → k < 256 → getD (reporting.tableAfter top bottom drawing D old) k d ≡ reporting.recordOf top bottom drawing D (k + 1)
+  pub unused : reporting.numberOf (reporting.reported top bottom drawing D (length old)) ≡ 0
+      → (v : ℕ) → v ≢ 0 → pins top bottom v ≡ 0 → reporting.recordOf top bottom drawing D v ≡ record { first = 0; last = 0; pins = 0; length = 0 }
+  -- "Records after the 256th keep their contents", also after a refusal
+  pub kept : (k : ℕ) → 256 ≤ k → getD (reporting.tableAfter top bottom drawing D old) k d ≡ getD old k d
+
+-- document 02, Job 2: "The net record gains a length, filled in from a drawing"
+pub record LeavesLengths (top bottom : List ℕ) (old : List NetRecord) (d : NetRecord) : Type 0 where
+  -- "the report without a drawing puts 0 there"
+  pub without : (D : List ℕ) → reporting.numberOf (reporting.reported top bottom Absent D (length old)) ≡ 0
+      → (k : ℕ) → k < 256 → getD (reporting.tableAfter top bottom Absent D old) k d .length ≡ 0
+  -- "The lengths of the first 256 records add up to the number of entries that are not 0": record v - 1 is that of the number v
+  pub addUp : (w t : ℕ) (D : List ℕ) → reporting.numberOf (reporting.reported top bottom (Given w t) D (length old)) ≡ 0
+      → sum (λ v. getD (reporting.tableAfter top bottom (Given w t) D old) (v - 1) d .length) 256 ≡ edgesDrawn D
 
 -- WHAT THE CALLS ON A RECORD LEAVE, of rows and a text that held `old`
 pub record LeavesRecord (s : List ℕ) : Type 0 where

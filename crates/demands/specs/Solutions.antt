@@ -10,6 +10,8 @@ use Rattle.grid.specs.Grid.{Solution}
 use Rattle.router.specs.Answers.{width, layout}
 use Rattle.router.specs.Answers as routing
 use Rattle.checker.specs.Check as checking
+use Rattle.report.specs.declared.Drawing.the-variants.{Given}
+use Rattle.report.specs.Report as reporting
 use Rattle.demands.specs.Table.{LetsThrough, end, ofRows}
 
 pub record DrawsSolutions (top bottom : List ℕ) : Type 0 where
@@ -23,3 +25,6 @@ pub record DrawsSolutions (top bottom : List ℕ) : Type 0 where
   -- the checker's number is 0 precisely for the solutions within its limits, of rows that the table lets through
   pub checker : (w t : ℕ) (D : List ℕ) → (checking.numberOf (checking.checked top bottom w t D) ≡ 0)
       ↔ (LetsThrough (ofRows top bottom 256 end) × (w ≤ 511) × (t ≤ 511) × Solution top bottom w t D)
+  -- document 02, Job 2: "The report on a drawing is given only for one the checker passes"
+  pub report : (w t : ℕ) (D : List ℕ) (lent : ℕ) → (reporting.numberOf (reporting.reported top bottom (Given w t) D lent) ≡ 0)
+      ↔ (LetsThrough (ofRows top bottom 256 end) × (256 ≤ lent) × (w ≤ 511) × (t ≤ 511) × Solution top bottom w t D)

@@ -1,4 +1,4 @@
--- Document 01, "Refused, by place": the table itself, line by line, with the line that document 02 adds.
+-- Document 01, "Refused, by place": the table itself, line by line, with what document 02 adds.
 use Prim.Native.Nat.{ℕ, _+_, _*_, _-_, _/_, _≤_, _<_}
 use mathlib.Core.Path.{_≡_}
 use mathlib.Core.Logic.{_≢_, _⊎_}
@@ -6,6 +6,8 @@ use mathlib.Core.List.{List}
 use lib.ListN.{length, getD}
 use Rattle.grid.specs.Channel.{pins, tracks}
 use Rattle.checker.specs.Faults.{Strange, PinWrong, LeavesLast, Split, LooseEnd}
+use Rattle.report.specs.declared.Drawing.{Drawing}
+use Rattle.report.specs.declared.Drawing.the-variants.{Absent, Given}
 use Rattle.record.specs.Record.{word}
 
 -- the lines of a table: number, and when it applies
@@ -57,8 +59,8 @@ module _ (top bottom : List ℕ) where
   ofLayout lent = line 8 (lent < (length top + tracks top bottom / 2) * (2 * tracks top bottom + 1)) end
 
 -- NET TABLE: "net table under 256 records"
-abbrev pub ofNetTable : (lent : ℕ) → Table
-ofNetTable lent = line 9 (lent < 256) end
+abbrev pub ofNetTable : (lent : ℕ) → Table → Table
+ofNetTable lent rest = line 9 (lent < 256) rest
 
 -- some number is so
 abbrev pub Some : (ℕ → Type 0) → Type 0
@@ -89,3 +91,8 @@ ofDrawing top bottom w t D =
     -- document 02, Job 1: "17: loose end; checked after 16"
     (line 17 (Some (LooseEnd w t D))
     end)))))))
+
+-- of a net report: those of its drawing, where it has one
+abbrev pub ofReported : (top bottom : List ℕ) → Drawing → (D : List ℕ) → Table
+ofReported top bottom Absent D = end
+ofReported top bottom (Given w t) D = ofDrawing top bottom w t D

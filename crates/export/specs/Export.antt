@@ -10,11 +10,15 @@ use Rattle.grid.specs.Answers.{countNumber, countDensity}
 use Rattle.router.specs.declared.Length.{Length}
 use Rattle.router.specs.declared.Routed.{Routed}
 use Rattle.router.specs.Answers.{numberOf, figuresOf, lengthNumberOf, entriesOf}
+use Rattle.checker.specs.declared.Fault.{Fault}
 use Rattle.checker.specs.declared.Checked.{Checked}
 use Rattle.checker.specs.Check.{placeOf, faultColumn, faultRow}
 use Rattle.checker.specs.Check.{numberOf as faultNumber}
 use Rattle.report.specs.declared.NetRecord.{NetRecord}
+use Rattle.report.specs.declared.Drawing.{Drawing}
+use Rattle.report.specs.declared.Reported.{Reported}
 use Rattle.report.specs.Report.{records, refused}
+use Rattle.report.specs.Report.{faultOf as told}
 use Rattle.export.specs.declared.DensityResult.{DensityResult}
 use Rattle.export.specs.declared.NeedResult.{NeedResult}
 use Rattle.export.specs.declared.RouteResult.{RouteResult}
@@ -45,12 +49,20 @@ faultOf a = record { number = faultNumber a; place = placeOf a; column = faultCo
 abbrev pub listOf : Listed → ListResult
 listOf a = record { number = listNumber a; length = lengthOf a }
 
--- "one per number 1 to 256: first column, last column, pin count": a table of net records as numbers, three for each record
+-- a fault's number, place, column and row
+abbrev pub toldBy : Fault → CheckResult
+toldBy f = record { number = f .number; place = f .place; column = f .column; row = f .row }
+
+-- the net report's number, and the place, column and row of the checker's own refusal
+abbrev pub reportOf : Reported → CheckResult
+reportOf a = toldBy (told a)
+
+-- "one per number 1 to 256: first column, last column, pin count", and the length: a table of net records as numbers, four for each record
 unfoldable pub flat : List NetRecord → List ℕ
 flat [] = []
-flat (x ∷ xs) = x .first ∷ x .last ∷ x .pins ∷ flat xs
+flat (x ∷ xs) = x .first ∷ x .last ∷ x .pins ∷ x .length ∷ flat xs
 
--- what the net report leaves in a table that held the numbers `old`, which are a third as many records; "Records after the 256th keep their contents"
-unfoldable pub figuresAfter : (top bottom old : List ℕ) → List ℕ
-figuresAfter top bottom old =
-    ifAccepted (refused top bottom (size old / 3)) (flat (records top bottom) ++ drop 768 old) old
+-- what the net report leaves in a table that held the numbers `old`, which are a quarter as many records; "Records after the 256th keep their contents"
+unfoldable pub figuresAfter : (top bottom : List ℕ) → Drawing → (D old : List ℕ) → List ℕ
+figuresAfter top bottom drawing D old =
+    ifAccepted (refused top bottom drawing D (size old / 4)) (flat (records top bottom drawing D) ++ drop 1024 old) old

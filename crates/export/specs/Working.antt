@@ -4,6 +4,6 @@ use mathlib.Core.List.{List}
 use lib.ListN.{set}
 use Rattle.report.specs.declared.NetRecord.{NetRecord}
 
--- the three numbers of a record, number k from 0, put into a table of numbers
+-- the four numbers of a record, number k from 0, put into a table of numbers
 unfoldable pub netPut : NetRecord → (k : ℕ) → List ℕ → List ℕ
-netPut r k xs = set (set (set xs (3 * k) (r .first)) (3 * k + 1) (r .last)) (3 * k + 2) (r .pins)
+netPut r k xs = set (set (set (set xs (4 * k) (r .first)) (4 * k + 1) (r .last)) (4 * k + 2) (r .pins)) (4 * k + 3) (r .length)

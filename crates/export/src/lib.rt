@@ -1,22 +1,26 @@
 // The calls for other languages: the libraries' answers as numbers. A slice passes as a pointer and a length in elements.
-use checker::Checked;
+use checker::Fault;
 use grid::DensityCount;
 use grid::Part;
+use report::Drawing;
 use report::NetRecord;
 use router::Length;
 use router::Routed;
 ghost use mathlib.Core.Path.{_≡_};
-ghost use mathlib.Core.List.{_++_};
+ghost use mathlib.Core.List.{[], _++_};
 ghost use Prim.Native.Nat.{_/_, _≤_, _<_};
 ghost use lib.ListN.{length, drop};
 ghost use Rattle.grid.specs.Answers.{densityCount};
 ghost use Rattle.grid.specs.View.{columnPart};
 ghost use Rattle.router.specs.Answers.{need, answer, written};
 ghost use Rattle.checker.specs.Check.{checked};
-ghost use Rattle.export.specs.Export.{densityOf, needOf, routeOf, faultOf, listOf, flat, figuresAfter};
+ghost use Rattle.export.specs.Export.{densityOf, needOf, routeOf, faultOf, listOf, reportOf, flat, figuresAfter};
 ghost use Rattle.export.specs.Working.{netPut};
-ghost use Rattle.report.specs.Report.{refused};
-ghost use Rattle.grid.specs.Refusals.{ifAccepted};
+ghost use Rattle.report.specs.declared.Drawing.the-variants.{Absent, Given};
+ghost use Rattle.report.specs.Report.{refused, reported, faultOf as told};
+ghost use Rattle.report.specs.Working.{numbered};
+ghost use Rattle.grid.specs.Channel.{rowsRefused};
+ghost use Rattle.grid.specs.Refusals.{firstRefusal, ifAccepted};
 ghost use Rattle.record.specs.Record.{laid};
 ghost use Rattle.listing.specs.Listing.{listed, refused as listRefused, textOf};
 
@@ -141,21 +145,29 @@ pub extern "C" fn gaxwethi_column(len: usize, w: usize, t: usize, c: usize) -> P
     grid::column_part(len, w, t, c)
 }
 
-// Writes the three numbers of a record, number k from 0.
-fn put_net(figures: &mut [u16], net: NetRecord, k: usize)
-    requires { ⌜ (k < 256) × (768 ≤ length (now figures)) ⌝ }
+// A number of a record, wide enough for a length.
+fn wide(x: u16) -> u32
+    ensures { λ r. ⌜ r ≡ x ⌝ }
+{
+    x as u32
+}
+
+// Writes the four numbers of a record, number k from 0.
+fn put_net(figures: &mut [u32], net: NetRecord, k: usize)
+    requires { ⌜ (k < 256) × (1024 ≤ length (now figures)) ⌝ }
     ensures { λ _. ⌜ now (figures .exit) ≡ netPut net k (now (figures .entry)) ⌝ }
 {
-    let at = 3 * k;
-    figures[at] = net.first;
-    figures[at + 1] = net.last;
-    figures[at + 2] = net.pins;
+    let at = 4 * k;
+    figures[at] = wide(net.first);
+    figures[at + 1] = wide(net.last);
+    figures[at + 2] = wide(net.pins);
+    figures[at + 3] = net.length;
 }
 
 // Writes the numbers of 256 records.
-fn put_nets(figures: &mut [u16], nets: [NetRecord; 256])
-    requires { ⌜ 768 ≤ length (now figures) ⌝ }
-    ensures { λ _. ⌜ now (figures .exit) ≡ flat nets ++ drop 768 (now (figures .entry)) ⌝ }
+fn put_nets(figures: &mut [u32], nets: [NetRecord; 256])
+    requires { ⌜ 1024 ≤ length (now figures) ⌝ }
+    ensures { λ _. ⌜ now (figures .exit) ≡ flat nets ++ drop 1024 (now (figures .entry)) ⌝ }
 {
     let mut k = 0;
     while k < 256 {
@@ -164,24 +176,78 @@ fn put_nets(figures: &mut [u16], nets: [NetRecord; 256])
     }
 }
 
-// The net report, three numbers for each record.
-#[no_mangle]
-pub extern "C" fn gaxwethi_report(top: &[u16], bottom: &[u16], figures: &mut [u16]) -> u16
-    ensures answer { λ r. ⌜ r ≡ refused (now (top .entry)) (now (bottom .entry)) (length (now (figures .entry)) / 3) ⌝ }
-    ensures figures { λ r. ⌜ now (figures .exit) ≡ figuresAfter (now (top .entry)) (now (bottom .entry)) (now (figures .entry)) ⌝ }
+// The refusal for a table that is too short: the rows', else 9.
+fn short_table(top: &[u16], bottom: &[u16]) -> Fault
+    ensures { λ f. ⌜ f ≡ numbered (firstRefusal (rowsRefused (now (top .entry)) (now (bottom .entry)) 256) 9) ⌝ }
 {
-    let reply = report::table_of(top, bottom);
+    let rows = grid::check_rows(top, bottom, 256);
+    let k = grid::number_of(rows);
+    Fault {
+        number: if k == 0 { 9 } else { k },
+        place: 0,
+        column: 0,
+        row: 0,
+    }
+}
+
+// The net report, with or without a drawing, four numbers for each record.
+fn report_numbers(
+    top: &[u16],
+    bottom: &[u16],
+    drawing: Drawing,
+    layout: &[u16],
+    figures: &mut [u32],
+) -> Fault
+    ensures answer { λ f. ⌜ f
+        ≡ told (reported (now (top .entry)) (now (bottom .entry)) drawing (now (layout .entry)) (length (now (figures .entry)) / 4)) ⌝ }
+    ensures figures { λ f. ⌜ now (figures .exit)
+        ≡ figuresAfter (now (top .entry)) (now (bottom .entry)) drawing (now (layout .entry)) (now (figures .entry)) ⌝ }
+{
+    if figures.len() < 1024 {
+        return short_table(top, bottom);
+    }
+    let reply = report::table_of(top, bottom, drawing, layout);
     let answer = reply.answer;
-    let number = report::number_of(answer);
-    if number != 0 {
-        return number;
+    let fault = report::fault_of(answer);
+    if fault.number == 0 {
+        let nets = reply.table;
+        put_nets(figures, nets);
     }
-    if figures.len() < 768 {
-        return 9;
+    fault
+}
+
+// The net report without a drawing: the lengths are 0.
+#[no_mangle]
+pub extern "C" fn gaxwethi_report(top: &[u16], bottom: &[u16], figures: &mut [u32]) -> u16
+    ensures answer { λ r. ⌜ r ≡ refused (now (top .entry)) (now (bottom .entry)) Absent [] (length (now (figures .entry)) / 4) ⌝ }
+    ensures figures { λ r. ⌜ now (figures .exit) ≡ figuresAfter (now (top .entry)) (now (bottom .entry)) Absent [] (now (figures .entry)) ⌝ }
+{
+    let fault = report_numbers(top, bottom, Drawing::Absent, &top[..0], figures);
+    fault.number
+}
+
+// The net report on a drawing of w columns and t tracks.
+#[no_mangle]
+pub extern "C" fn gaxwethi_report_drawing(
+    top: &[u16],
+    bottom: &[u16],
+    w: usize,
+    t: usize,
+    layout: &[u16],
+    figures: &mut [u32],
+) -> CheckResult
+    ensures answer { λ r. ⌜ r
+        ≡ reportOf (reported (now (top .entry)) (now (bottom .entry)) (Given w t) (now (layout .entry)) (length (now (figures .entry)) / 4)) ⌝ }
+    ensures figures { λ r. ⌜ now (figures .exit)
+        ≡ figuresAfter (now (top .entry)) (now (bottom .entry)) (Given w t) (now (layout .entry)) (now (figures .entry)) ⌝ }
+{
+    let fault = report_numbers(top, bottom, Drawing::Given(w, t), layout, figures);
+    CheckResult {
+        number: fault.number,
+        place: fault.place,
+        column: fault.column,
+        row: fault.row,
     }
-    let nets = reply.table;
-    put_nets(figures, nets);
-    0
 }
 
 // The listing of a record, at the front of the text; what stands behind it stays. A refused record leaves the text as it is.

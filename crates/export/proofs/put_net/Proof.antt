@@ -1,4 +1,4 @@
--- `put_net` meets its contract: three stores side by side. Assumes nothing.
+-- `put_net` meets its contract: four stores side by side. Assumes nothing.
 use mathlib.Core.Path.{refl}
 use lib.ListN.{length-set}
 use Rattle.export.specs.Working.{netPut}
@@ -10,11 +10,17 @@ use Rattle.export.proofs.put_net.Tie as tie
 mul-at : tie.Need-mul-at
 mul-at c = search needs
 
+wide-requires : tie.Need-wide-requires
+wide-requires c κs = search needs
+
 mul-figures : tie.Need-mul-figures
 mul-figures c = search needs
 
 slice-write-figures : tie.Need-slice-write-figures
 slice-write-figures c = search needs
+
+wide-requires-2 : tie.Need-wide-requires-2
+wide-requires-2 c κs = search needs
 
 add-figures : tie.Need-add-figures
 add-figures c = search needs
@@ -25,6 +31,9 @@ mul-figures-2 c = search needs
 slice-write-figures-2 : tie.Need-slice-write-figures-2
 slice-write-figures-2 c = simp length-set (omega arith)
 
+wide-requires-3 : tie.Need-wide-requires-3
+wide-requires-3 c κs = search needs
+
 add-figures-2 : tie.Need-add-figures-2
 add-figures-2 c = search needs
 
@@ -34,25 +43,40 @@ mul-figures-3 c = search needs
 slice-write-figures-3 : tie.Need-slice-write-figures-3
 slice-write-figures-3 c = simp length-set (omega arith)
 
+add-figures-3 : tie.Need-add-figures-3
+add-figures-3 c = search needs
+
+mul-figures-4 : tie.Need-mul-figures-4
+mul-figures-4 c = search needs
+
+slice-write-figures-4 : tie.Need-slice-write-figures-4
+slice-write-figures-4 c = simp length-set (omega arith)
+
 same-length : tie.Need-same-length
 same-length c = search needs
 
 returns : tie.Need-returns
 unfolding netPut
-returns c = refl
+returns c = rw (c .before .before .wide .ensures, c .before .wide2 .ensures, c .wide3 .ensures) refl
 
 pub put-net-spec : {M : Type 1} → statement M
 put-net-spec =
     tie.close
     (tie.spec
     mul-at
+    wide-requires
     mul-figures
     slice-write-figures
+    wide-requires-2
     add-figures
     mul-figures-2
     slice-write-figures-2
+    wide-requires-3
     add-figures-2
     mul-figures-3
     slice-write-figures-3
+    add-figures-3
+    mul-figures-4
+    slice-write-figures-4
     same-length
     returns)

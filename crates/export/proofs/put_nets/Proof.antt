@@ -11,7 +11,7 @@ use Rattle.export.proofs.put_nets.Statement.{statement}
 use Rattle.export.proofs.put_nets.Tie as tie
 
 abbrev Inv-loop : tie.InvT-loop
-Inv-loop figures₀ nets k₀ figures k = (k ≤ 256) × (figures ≡ flat (take k nets) ++ drop (3 * k) figures₀)
+Inv-loop figures₀ nets k₀ figures k = (k ≤ 256) × (figures ≡ flat (take k nets) ++ drop (4 * k) figures₀)
 
 abbrev μ-loop : tie.MeasureT-loop
 μ-loop figures₀ nets k₀ figures k = 256 - k
