@@ -1,175 +1,119 @@
-// Writes the net report of each channel on standard input. A line is a channel: the numbers of its top row, a slash, the numbers of its bottom row.
+// Runs the net report on cases from standard input and writes a line for each answer, `number N place P column C row R`, and after a filled table a line
+// `net V: FIRST LAST PINS LENGTH` for each record that is not all zeros.
+// A case is 16-bit words, low byte first: the length of the top row, of the bottom row, 1 with a drawing or 0 without, the width, the tracks, the length of
+// the layout (two words, low word first), then the rows and the layout. A case that is cut off ends the run.
 ghost use Prim.Native.Nat.{_≤_};
 ghost use lib.ListN.{length};
-ghost use Rattle.io.specs.Counts.{Counts};
+use checker::Fault;
+use report::Drawing;
 use report::NetRecord;
 use report::Reply;
 
-// The numbers read so far, and the one that is being read.
-struct Scan {
-    numbers: [u16; 300],
-    count: usize,
-    value: u16,
-    inside: bool,
-}
-
-fn start() -> Scan {
-    Scan {
-        numbers: [0; 300],
-        count: 0,
-        value: 0,
-        inside: false,
-    }
-}
-
-fn is_digit(b: u8) -> bool {
-    (b'0' <= b) & (b <= b'9')
-}
-
-// A number with one more digit, whose value is the low half of its byte. A number that is too long stays as it is.
-fn longer(x: u16, b: u8) -> u16 {
-    if 6552 < x {
-        return x;
-    }
-    x * 10 + (b % 16) as u16
-}
-
-// The number that is being read ends here. Past 300 numbers the rest is left out.
-fn closed(s: Scan) -> Scan {
-    let k = s.count;
-    if !s.inside {
-        return s;
-    }
-    if 300 <= k {
-        return s;
-    }
-    let mut numbers = s.numbers;
-    numbers[k] = s.value;
-    Scan {
-        numbers,
-        count: k + 1,
-        value: 0,
-        inside: false,
-    }
-}
-
-fn step(s: Scan, b: u8) -> Scan {
-    if !is_digit(b) {
-        return closed(s);
-    }
-    let numbers = s.numbers;
-    Scan {
-        numbers,
-        count: s.count,
-        value: longer(s.value, b),
-        inside: true,
-    }
-}
-
-// The numbers of a row.
-fn row(text: &[u8]) -> Scan {
-    let mut s = start();
-    let mut i = 0;
-    while i < text.len() {
-        s = step(s, text[i]);
-        i += 1;
-    }
-    closed(s)
-}
-
-// The place of a byte at or after `from`, or the end of the text.
-fn place(text: &[u8], from: usize, b: u8) -> usize
-    requires { ⌜ from ≤ length (now text) ⌝ }
-    ensures { λ r. ⌜ (from ≤ r) × (r ≤ length (now (text .entry))) ⌝ }
-{
-    let mut i = from;
-    while i < text.len() {
-        if text[i] == b {
-            return i;
-        }
-        i += 1;
-    }
-    i
-}
-
-fn say(text: &[u8]) {
+// Writes some text and a number.
+fn say(text: &[u8], x: u64) {
     io::write_all(1, text);
+    io::print_decimal(1, x);
 }
 
-fn say_number(x: u16) {
-    io::print_decimal(1, x as u64);
+fn end_line() {
+    io::write_all(1, b"\n");
 }
 
-fn show_net(net: u16, r: NetRecord) {
-    if (r.first == 0) & (r.last == 0) & (r.pins == 0) {
+// Number, place, column and row of an answer.
+fn show_fault(f: Fault) {
+    say(b"number ", f.number as u64);
+    say(b" place ", f.place as u64);
+    say(b" column ", f.column as u64);
+    say(b" row ", f.row as u64);
+    end_line();
+}
+
+// The record of a net, unless it is all zeros.
+fn show_net(net: u64, r: NetRecord) {
+    if (r.first == 0) & (r.last == 0) & (r.pins == 0) & (r.length == 0) {
         return;
     }
-    say(b"net ");
-    say_number(net);
-    say(b": ");
-    say_number(r.first);
-    say(b" ");
-    say_number(r.last);
-    say(b" ");
-    say_number(r.pins);
-    say(b"\n");
+    say(b"net ", net);
+    say(b": ", r.first as u64);
+    say(b" ", r.last as u64);
+    say(b" ", r.pins as u64);
+    say(b" ", r.length as u64);
+    end_line();
 }
 
-// Every record of the table that is not zeros.
+// The records of the nets 1 to 256.
 fn show_table(table: [NetRecord; 256]) {
     let mut k = 0;
-    let mut net = 1;
     while k < 256 {
-        show_net(net, table[k]);
+        show_net((k + 1) as u64, table[k]);
         k += 1;
-        net += 1;
     }
 }
 
+// The answer, and the table where it is filled.
 fn show(r: Reply) {
     let answer = r.answer;
-    let number = report::number_of(answer);
-    if number != 0 {
-        say(b"refused ");
-        say_number(number);
-        say(b"\n");
+    let f = report::fault_of(answer);
+    show_fault(f);
+    if f.number == 0 {
+        let table = r.table;
+        show_table(table);
     }
-    if number == 0 {
-        say(b"filled\n");
-    }
-    let table = r.table;
-    show_table(table);
 }
 
-// How many of the numbers of a row are there, at most n.
-fn within(numbers: &[u16], n: usize) -> usize
-    ensures { λ r. ⌜ Counts r (now (numbers .entry)) ⌝ }
+// The drawing that three words of a case name.
+fn drawing_of(drawn: u16, w: u16, t: u16) -> Drawing {
+    if drawn == 0 {
+        Drawing::Absent
+    } else {
+        Drawing::Given(words::number(w), words::number(t))
+    }
+}
+
+// The case at a place: answers it and gives the place of the next; the same place where there is none.
+fn run_case(words: &[u16], at: usize) -> usize
+    requires { ⌜ at ≤ 524288 ⌝ }
+    requires { ⌜ length (now words) ≤ 524288 ⌝ }
+    ensures { λ r. ⌜ r ≤ 524288 ⌝ }
 {
-    if numbers.len() < n { numbers.len() } else { n }
+    let start = at + 7;
+    if words.len() < start {
+        return at;
+    }
+    let low = start + words::number(words[at]);
+    let high = low + words::number(words[at + 1]);
+    let end = high + words::long(words[at + 5], words[at + 6]);
+    if words.len() < end {
+        return at;
+    }
+    let drawing = drawing_of(words[at + 2], words[at + 3], words[at + 4]);
+    show(report::table_of(
+        &words[start..low],
+        &words[low..high],
+        drawing,
+        &words[high..end],
+    ));
+    end
 }
 
-fn channel(top: &[u8], bottom: &[u8]) {
-    let t = row(top);
-    let b = row(bottom);
-    let above = t.numbers;
-    let below = b.numbers;
-    let n = within(&above, t.count);
-    let m = within(&below, b.count);
-    show(report::table_of(&above[..n], &below[..m]));
-}
-
-fn channels(text: &[u8]) {
+// All cases.
+fn run_cases(words: &[u16])
+    requires { ⌜ length (now words) ≤ 524288 ⌝ }
+{
     let mut at = 0;
-    while at < text.len() {
-        let slash = place(text, at, b'/');
-        let end = place(text, slash, b'\n');
-        channel(&text[at..slash], &text[slash..end]);
-        at = end + 1;
+    while at < words.len() {
+        let next = run_case(words, at);
+        if next <= at {
+            return;
+        }
+        at = next;
     }
 }
 
 fn main() {
-    let mut bytes = io::large_buffer();
+    let mut bytes = words::byte_room();
     let n = io::read_full(0, &mut bytes);
-    channels(&bytes[..n]);
+    let mut words = words::word_room();
+    let k = words::decode(&bytes[..n], &mut words);
+    run_cases(&words[..k]);
 }

@@ -1,14 +1,15 @@
--- `check_cases::run_cases` meets its contract: places stay within the room.
+-- `check_cases::run_cases` meets its contract: places stay within the room, and each is higher than the one before.
 use Prim.Native.Nat.{_≤_, _-_}
+use lib.ListN.{length}
 use borrow.Author.Needs.{needs}
 use Rattle.check_cases.proofs.run_cases.Statement.{statement}
 use Rattle.check_cases.proofs.run_cases.Tie as tie
 
 abbrev Inv-loop : tie.InvT-loop
-Inv-loop words at₀ turns₀ at turns = (at ≤ 524288) × (turns ≤ 100000)
+Inv-loop words at₀ at = at ≤ 524288
 
 abbrev μ-loop : tie.MeasureT-loop
-μ-loop words at₀ turns₀ at turns = 100000 - turns
+μ-loop words at₀ at = length words - at
 
 loop-holds : tie.Need-loop-holds Inv-loop μ-loop
 loop-holds c = search needs
@@ -18,9 +19,6 @@ run-case-requires c κs = search needs
 
 returns : tie.Need-returns Inv-loop μ-loop
 returns c = search needs
-
-add-turns : tie.Need-add-turns Inv-loop μ-loop
-add-turns c = search needs
 
 loop-less : tie.Need-loop-less Inv-loop μ-loop
 loop-less c = search needs
@@ -40,7 +38,6 @@ run-cases-spec =
     loop-holds
     run-case-requires
     returns
-    add-turns
     loop-less
     loop-again
     returns-2)

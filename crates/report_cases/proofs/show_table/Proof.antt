@@ -1,18 +1,20 @@
--- `report_cases::show_table` is safe and ends: net k + 1 is shown at place k. Assumes nothing.
-use Prim.Native.Nat.{_≤_, _+_, _-_}
-use mathlib.Core.Path.{_≡_}
+-- `report_cases::show_table` is safe and ends: the place lies in the table.
+use Prim.Native.Nat.{_≤_, _-_}
 use borrow.Author.Needs.{needs}
 use Rattle.report_cases.proofs.show_table.Statement.{statement}
 use Rattle.report_cases.proofs.show_table.Tie as tie
 
 abbrev Inv-loop : tie.InvT-loop
-Inv-loop table k₀ net₀ k net = (k ≤ 256) × (net ≡ k + 1)
+Inv-loop table k₀ k = k ≤ 256
 
 abbrev μ-loop : tie.MeasureT-loop
-μ-loop table k₀ net₀ k net = 256 - k
+μ-loop table k₀ k = 256 - k
 
 loop-holds : tie.Need-loop-holds Inv-loop μ-loop
 loop-holds c = search needs
+
+add-show-net : tie.Need-add-show-net Inv-loop μ-loop
+add-show-net c = search needs
 
 mul-show-net : tie.Need-mul-show-net Inv-loop μ-loop
 mul-show-net c = search needs
@@ -25,9 +27,6 @@ show-net-requires c κs = search needs
 
 add-k : tie.Need-add-k Inv-loop μ-loop
 add-k c = search needs
-
-add-net : tie.Need-add-net Inv-loop μ-loop
-add-net c = search needs
 
 loop-less : tie.Need-loop-less Inv-loop μ-loop
 loop-less c = search needs
@@ -45,11 +44,11 @@ show-table-spec =
     Inv-loop
     μ-loop
     loop-holds
+    add-show-net
     mul-show-net
     array-copy-out-show-net
     show-net-requires
     add-k
-    add-net
     loop-less
     loop-again
     returns)

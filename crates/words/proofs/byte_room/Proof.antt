@@ -1,9 +1,9 @@
--- `check_cases::byte_room` meets its contract.
+-- `words::byte_room` meets its contract.
 use Prim.Native.Nat.{ℕ}
 use mathlib.Core.Path.{sym}
 use lib.ListN.{length-replicate}
-use Rattle.check_cases.proofs.byte_room.Statement.{statement}
-use Rattle.check_cases.proofs.byte_room.Tie as tie
+use Rattle.words.proofs.byte_room.Statement.{statement}
+use Rattle.words.proofs.byte_room.Tie as tie
 
 returns : tie.Need-returns
 returns c = sym (length-replicate {A = ℕ} 1048576 0)

@@ -1,27 +1,24 @@
--- `report_cases::place` meets its contract: the place passed on lies in the text. Assumes nothing.
+-- `report_cases::run_cases` meets its contract: places stay within the room, and each is higher than the one before.
 use Prim.Native.Nat.{_≤_, _-_}
 use lib.ListN.{length}
 use borrow.Author.Needs.{needs}
-use Rattle.report_cases.proofs.place.Statement.{statement}
-use Rattle.report_cases.proofs.place.Tie as tie
+use Rattle.report_cases.proofs.run_cases.Statement.{statement}
+use Rattle.report_cases.proofs.run_cases.Tie as tie
 
 abbrev Inv-loop : tie.InvT-loop
-Inv-loop text from b i₀ i = (from ≤ i) × (i ≤ length text)
+Inv-loop words at₀ at = at ≤ 524288
 
 abbrev μ-loop : tie.MeasureT-loop
-μ-loop text from b i₀ i = length text - i
+μ-loop words at₀ at = length words - at
 
 loop-holds : tie.Need-loop-holds Inv-loop μ-loop
 loop-holds c = search needs
 
-shared-slice-read-if1 : tie.Need-shared-slice-read-if1 Inv-loop μ-loop
-shared-slice-read-if1 c = search needs
+run-case-requires : tie.Need-run-case-requires Inv-loop μ-loop
+run-case-requires c κs = search needs
 
 returns : tie.Need-returns Inv-loop μ-loop
 returns c = search needs
-
-add-i : tie.Need-add-i Inv-loop μ-loop
-add-i c = search needs
 
 loop-less : tie.Need-loop-less Inv-loop μ-loop
 loop-less c = search needs
@@ -32,16 +29,15 @@ loop-again c = search needs
 returns-2 : tie.Need-returns-2 Inv-loop μ-loop
 returns-2 c = search needs
 
-pub place-spec : {M : Type 1} → statement M
-place-spec =
+pub run-cases-spec : {M : Type 1} → statement M
+run-cases-spec =
     tie.close
     (tie.spec
     Inv-loop
     μ-loop
     loop-holds
-    shared-slice-read-if1
+    run-case-requires
     returns
-    add-i
     loop-less
     loop-again
     returns-2)

@@ -1,0 +1,2 @@
+-- What the words of some bytes are.
+pub mod Words
