@@ -128,18 +128,36 @@ gaxwethi_check_result gaxwethi_check(const uint16_t *top, size_t n,
                                      size_t w, size_t t,
                                      const uint16_t *layout, size_t len);
 
-/* Numbers in the table of gaxwethi_report: three for each of 256 nets. */
-#define GAXWETHI_FIGURES (3 * 256)
+/* Numbers in the table of a net report: four for each of 256 nets. */
+#define GAXWETHI_FIGURES (4 * 256)
 
 /*
- * Reports the nets: for each number 1 to 256 its first column, last column
- * and pin count, zeros for an unused number. The table is lent as numbers,
- * three for each record; len counts numbers. Refuses with 4 to 7, and with 9
- * if len is under GAXWETHI_FIGURES. Numbers after those keep their contents.
+ * Reports the nets: for each number 1 to 256 its first column, last column,
+ * pin count and length, zeros for an unused number. Here, without a drawing,
+ * every length is 0. The table is lent as numbers, four for each record; len
+ * counts numbers. Refuses with 4 to 7, and with 9 if len is under
+ * GAXWETHI_FIGURES. Numbers after those keep their contents.
  */
 uint16_t gaxwethi_report(const uint16_t *top, size_t n,
                          const uint16_t *bottom, size_t m,
-                         uint16_t *figures, size_t len);
+                         uint32_t *figures, size_t len);
+
+/*
+ * Reports the nets with their lengths in a drawing, which is lent as to
+ * gaxwethi_check. The length of a net is the number of its edges, vertical and
+ * horizontal, the pins' own edges included; all lengths add up to the number
+ * of entries that are not 0. The table is that of gaxwethi_report; count counts
+ * its numbers.
+ *
+ * Refuses first for the rows, with 4 to 7; then for the table, with 9; then for
+ * the drawing, with 10 to 17 as gaxwethi_check does, place, column and row
+ * included. So the report is given only for a solution.
+ */
+gaxwethi_check_result gaxwethi_report_drawing(const uint16_t *top, size_t n,
+                                              const uint16_t *bottom, size_t m,
+                                              size_t w, size_t t,
+                                              const uint16_t *layout, size_t len,
+                                              uint32_t *figures, size_t count);
 
 typedef struct {
     size_t offset;

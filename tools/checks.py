@@ -215,10 +215,18 @@ def worked():
             yield check_case(part)
 
 
+def packed(numbers):
+    """Numbers as 16-bit words, low byte first."""
+    return struct.pack('<%dH' % len(numbers), *numbers)
+
+
+def measures(w, t, layout):
+    """Width, tracks and the layout's length, low word first."""
+    return [w % 65536, t, len(layout) % 65536, len(layout) // 65536]
+
+
 def words(top, bottom, w, t, layout):
-    head = [len(top), len(bottom), w % 65536, t, len(layout) % 65536, len(layout) // 65536]
-    row = head + top + bottom + layout
-    return struct.pack('<%dH' % len(row), *row)
+    return packed([len(top), len(bottom), *measures(w, t, layout), *top, *bottom, *layout])
 
 
 def stored():

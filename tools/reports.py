@@ -1,35 +1,24 @@
 #!/usr/bin/env python3
-"""Makes crates/report_cases/stdin and crates/report_cases/stdout, the channels and their net reports, from document 01 alone."""
+"""Makes the cases of the program `report_cases`, crates/report_cases/stdin, and the answers expected of it, crates/report_cases/stdout.
+
+The cases are channels that are made here, without a drawing and with that of the second router, and those of tools/cases/job2-reports.txt, worked by an
+independent model of documents 01 and 02. The program's table always has 256 records, so those with a shorter one are left out and 9 does not occur. A
+case is 16-bit words, low byte first: the lengths of the two rows, 1 with a drawing and 0 without, width, tracks, the layout's length (two words, low
+word first), the rows, the layout; without a drawing its measures are 0. The program answers each case by a line `number N place P column C row R` and, if
+it is accepted, a line `net V: FIRST LAST PINS LENGTH` for each record that is not all zeros. The answers are the second report's, which is held to the
+worked ones.
+"""
 import pathlib
 import random
 
+from checks import measures, packed
+from second_report import NO_RECORD, report
+from second_router import blocks, report_case, same_report
+from second_sweep import LARGEST, refusal, route
+
 ROOT = pathlib.Path(__file__).resolve().parent.parent
-
-
-def refusal(top, bottom):
-    """The number of the rows' refusal, 0 for none; the table of the program always has 256 records, so 9 does not occur."""
-    if len(top) != len(bottom):
-        return 4
-    if len(top) > 256:
-        return 5
-    if any(v > 256 for v in top + bottom):
-        return 6
-    pins = top + bottom
-    if any(pins.count(v) == 1 for v in pins if v != 0):
-        return 7
-    return 0
-
-
-def report(top, bottom):
-    number = refusal(top, bottom)
-    if number:
-        return ['refused %d' % number]
-    lines = ['filled']
-    for net in range(1, 257):
-        columns = [c + 1 for row in (top, bottom) for c, v in enumerate(row) if v == net]
-        if columns:
-            lines.append('net %d: %d %d %d' % (net, min(columns), max(columns), len(columns)))
-    return lines
+WORKED = ROOT / 'tools' / 'cases' / 'job2-reports.txt'
+MOST_ENTRIES = 8000  # of a made channel's drawing
 
 
 def drawn_by_lot(lot, n, nets, pins, empty):
@@ -88,13 +77,47 @@ def channels():
     return cases
 
 
+def made():
+    """Each channel without a drawing and, where it has one that is not too large, with the second router's."""
+    for top, bottom in channels():
+        yield top, bottom, None
+        if refusal(top, bottom) == 0:
+            _, t, w, layout = route(top, bottom)
+            if len(layout) <= MOST_ENTRIES:
+                yield top, bottom, (w, t, layout)
+
+
+def worked():
+    """The worked cases, on which the second report agrees, but for those whose table is too short."""
+    for part in blocks(WORKED):
+        if not same_report(part):
+            raise AssertionError('the second report differs from %s: %s' % (WORKED.name, part))
+        top, bottom, drawing, records = report_case(part)
+        if records >= LARGEST:
+            yield top, bottom, drawing
+
+
+def words(top, bottom, drawing):
+    w, t, layout = drawing or (0, 0, [])
+    return packed([len(top), len(bottom), int(drawing is not None), *measures(w, t, layout), *top, *bottom, *layout])
+
+
+def lines(top, bottom, drawing):
+    """The program's answer."""
+    table = [NO_RECORD] * LARGEST
+    yield 'number %d place %d column %d row %d\n' % report(top, bottom, table, drawing)
+    for net, record in enumerate(table, 1):
+        if record != NO_RECORD:
+            yield 'net %d: %d %d %d %d\n' % (net, *record)
+
+
 def stored():
-    """The text of the program's standard input, and the text expected of it."""
-    cases = channels()
-    rows = ['%s/%s\n' % (' '.join(map(str, top)), ' '.join(map(str, bottom))) for top, bottom in cases]
-    return ''.join(rows), ''.join('\n'.join(report(top, bottom)) + '\n' for top, bottom in cases)
+    """The bytes of the program's standard input, and the text expected of it."""
+    cases = [*made(), *worked()]
+    return b''.join(words(*case) for case in cases), ''.join(line for case in cases for line in lines(*case))
 
 
 if __name__ == '__main__':
-    for name, text in zip(('stdin', 'stdout'), stored()):
-        (ROOT / 'crates/report_cases' / name).write_bytes(text.encode())
+    cases, answers = stored()
+    (ROOT / 'crates/report_cases/stdin').write_bytes(cases)
+    (ROOT / 'crates/report_cases/stdout').write_bytes(answers.encode())

@@ -1,16 +1,18 @@
 #!/usr/bin/env python3
-"""A second router and checker for knock-knee channels.
+"""A second router, checker and net report for knock-knee channels.
 
 Written from documents 01 and 02 alone, so that its answers can be laid beside those of the proved one.
 It keeps the tracks of each net as a set, draws wires row by row, and finds pieces by a search over grid points.
 
     second_router.py list  < record      the listing of one record
-    second_router.py compare FILE ...    compare with files of worked cases, whose names end in routes.txt, listings.txt or checks.txt
+    second_router.py compare FILE ...    compare with files of worked cases, whose names end in routes.txt, listings.txt, checks.txt, reports.txt or
+                                         long.txt
 """
 
 import sys
 
 from second_checker import check
+from second_report import NO_RECORD, report
 from second_sweep import LARGEST, refusal, route
 
 LISTED = 64  # columns of a channel that is listed
@@ -68,8 +70,9 @@ def blocks(path):
 
 
 def row(line):
-    """The numbers of a line after its first word."""
-    return [int(word) for word in line.split(" ")[1:] if word]
+    """The numbers of a line after its first word, where 5x199 is the number 5, 199 times."""
+    parts = (word.partition("x") for word in line.split(" ")[1:] if word)
+    return [int(number) for number, _, times in parts for _ in range(int(times or 1))]
 
 
 def figures(line):
@@ -92,16 +95,39 @@ def check_case(part):
     return row(part[0]), row(part[1]), *figures(part[2]), row(part[3])
 
 
+def before_job_8(worked):
+    """A worked answer with the number of before Job 8, which divides 14 into 14, 19 and 20."""
+    return (14 if worked[0] in (19, 20) else worked[0], *worked[1:])
+
+
 def same_check(part):
-    """Whether the checker gives a worked case's answer. One without column and row is from before Job 1, when a loose end passed; one
-    with them has the numbers of Job 8, which divides 14 into 14, 19 and 20."""
+    """Whether the checker gives a worked case's answer. One without column and row is from before Job 1, when a loose end passed."""
     answer, worked = check(*check_case(part)), figures(part[4])
     if len(worked) == 2:
         return worked == ((0, 0) if answer[0] == 17 else answer[:2])
-    return (14 if worked[0] in (19, 20) else worked[0], *worked[1:]) == answer
+    return before_job_8(worked) == answer
 
 
-KINDS = {"routes.txt": same_route, "listings.txt": same_listing, "checks.txt": same_check}
+def report_case(part):
+    """What the report is lent: rows, the drawing or None, and how many records the table has."""
+    drawing = None if part[2] == "no drawing" else (*figures(part[2]), row(part[3]))
+    records, = next(figures(line) for line in part if line.startswith("table "))
+    return row(part[0]), row(part[1]), drawing, records
+
+
+def same_report(part):
+    """Whether the report gives a worked case's answer and fills the table accordingly: the records of a refused call and those after the 256th stay."""
+    top, bottom, drawing, records = report_case(part)
+    kept = [(-1,) * 4] * records
+    table = list(kept)
+    answer = report(top, bottom, table, drawing)
+    worked = next(figures(line) for line in part if line.startswith("number "))
+    nets = {net: record for net, *record in (figures(line) for line in part if line.startswith("net "))}
+    filled = [tuple(nets.get(net, NO_RECORD)) for net in range(1, LARGEST + 1)]
+    return before_job_8(worked) == answer and table == (kept if worked[0] else filled + kept[LARGEST:])
+
+
+KINDS = {"routes.txt": same_route, "listings.txt": same_listing, "checks.txt": same_check, "reports.txt": same_report, "long.txt": same_report}
 
 
 def compare(paths):

@@ -11,8 +11,11 @@ import draw
 import listing
 import make_records
 import reports
+import second_report
+import second_router
 
-CRATES = pathlib.Path(__file__).resolve().parent.parent / "crates"
+HERE = pathlib.Path(__file__).resolve().parent
+CRATES = HERE.parent / "crates"
 
 CASE_D = bytes.fromhex("0C 00 01 00 02 00 01 00 02 00 02 00 01 00")
 LISTING_D = "density 2 tracks 2 width 3\n1: 2 0 1 | 2 1\n2: 1 2 2 | 1 1\n3: 0 1 0 | 0 0\n"
@@ -75,6 +78,7 @@ class Stored(unittest.TestCase):
         self.held("listing_cases", make_records.stored())
 
     def test_report_cases(self):
+        self.assertEqual((len(list(reports.worked())), len(list(reports.made()))), (1279, 53))
         self.held("report_cases", reports.stored())
 
     def test_check_cases(self):
@@ -83,6 +87,24 @@ class Stored(unittest.TestCase):
 
     def test_no_program_without_a_maker(self):
         self.assertEqual({path.parent.name for path in CRATES.glob("*/stdout")}, {"knee", "listing_cases", "report_cases", "check_cases"})
+
+
+class Reports(unittest.TestCase):
+    def test_case_d(self):
+        table = [(9, 9, 9, 9)] * 257
+        layout = [2, 0, 1, 2, 1, 1, 2, 2, 1, 1, 0, 1, 0, 0, 0]
+        self.assertEqual(second_report.report([1, 2], [2, 1], table, (3, 2, layout)), (0, 0, 0, 0))
+        self.assertEqual(table, [(1, 2, 2, 6), (1, 2, 2, 4)] + [(0, 0, 0, 0)] * 254 + [(9, 9, 9, 9)])
+
+    def test_lengths_add_up(self):
+        for top, bottom, drawing in reports.made():
+            if drawing:
+                w, t, layout = drawing
+                self.assertEqual(sum(second_report.lengths(layout, t).values()), sum(entry > 0 for entry in layout))
+
+    def test_longer_than_16_bits(self):
+        answers = [second_router.same_report(part) for part in second_router.blocks(HERE / "cases" / "job2-long.txt")]
+        self.assertEqual(answers, [True, True])
 
 
 class Draw(unittest.TestCase):

@@ -16,7 +16,7 @@ HERE = pathlib.Path(__file__).resolve().parent
 WORK = HERE / "target" / "faults"
 CHANNELS = "10000"
 
-ROWS, CHECK, LIST, ROUTE = (f"baseline/src/{x}.rs" for x in ("rows", "check", "list", "route"))
+ROWS, CHECK, REPORT, LIST, ROUTE = (f"baseline/src/{x}.rs" for x in ("rows", "check", "report", "list", "route"))
 CALLS = "standin/src/lib.rs"
 
 # Label, file, text, text with the fault.
@@ -26,9 +26,6 @@ FAULTS = [
     ("density in columns", ROWS, "change[net.last as usize] -= 1",
      "change[(net.last as usize + 1).min(256)] -= 1"),
     ("last gap left out", ROWS, ".take(n)", ".take(n.saturating_sub(1))"),
-    ("pins over nine", ROWS, "net.last, net.pins]", "net.last, net.pins.min(9)]"),
-    ("table one number short", ROWS, "< 3 * 256 {", "< 3 * 256 - 1 {"),
-    ("257th record written", ROWS, ".zip(&nets[1..])", ".zip(nets[1..].iter().chain(&nets[..1]))"),
     ("pieces never counted", CHECK, "count > 1)", "count > 500)"),
     ("highest broken net", CHECK, ".position(|&count|", ".rposition(|&count|"),
     ("a cycle taken for a join", CHECK, "if a != b {", "if a != b || a > 0 {"),
@@ -55,6 +52,23 @@ FAULTS = [
     ("tracks 511", CHECK, "if t > 511", "if t > 510"),
     ("last column hidden", CHECK, "(1..=w).contains", "(1..w).contains"),
     ("offset of an empty part", CHECK, "        (0, 0)\n    }", "        (len.min(1), 0)\n    }"),
+    ("pins over nine", REPORT, "net.last, net.pins]", "net.last, net.pins.min(9)]"),
+    ("table one number short", REPORT, "< 4 * 256 {", "< 4 * 256 - 1 {"),
+    ("257th record written", REPORT, ".skip(1)", ".cycle().skip(1).take(257)"),
+    ("length without a drawing", REPORT, "&[0; 257]", "&[1; 257]"),
+    ("length of vertical edges", REPORT, "layout.iter()", "layout.chunks(2 * t + 1).flat_map(|column| &column[..=t])"),
+    ("length without pin edges", REPORT, "layout.iter()",
+     "layout.chunks(2 * t + 1).flat_map(|column| column[1..t.max(1)].iter().chain(&column[t + 1..]))"),
+    ("length without the last column", REPORT, "layout.iter()", "layout[..layout.len().saturating_sub(2 * t + 1)].iter()"),
+    ("length of 16 bits", REPORT, "pins, length]", "pins, length & 0xffff]"),
+    ("length of net 256", REPORT, "lengths[net as usize] += 1", "lengths[net as usize % 256] += 1"),
+    ("no report on an empty drawing", REPORT, "if checked.number == 0 {", "if checked.number == 0 && !layout.is_empty() {"),
+    ("refused drawing's table written", REPORT, "if checked.number == 0 {", "if matches!(checked.number, 0 | 17) {"),
+    ("9 after the drawing", REPORT, "Err(number) => return Checked::refused(number, 0),",
+     "Err(number) => return match crate::check(top, bottom, w, t, layout) {\n"
+     "            Checked { number: 0, .. } => Checked::refused(number, 0),\n            other => other,\n        },"),
+    ("place of a report dropped", REPORT, "    checked\n}", "    Checked { place: 0, ..checked }\n}"),
+    ("row of a report dropped", REPORT, "    checked\n}", "    Checked { row: 0, ..checked }\n}"),
     ("kind by one byte", LIST, "words[1] != 1", "words[1] & 255 != 1"),
     ("record of 1,031 bytes", LIST, "4..=1030", "4..=1031"),
     ("65 columns listed", LIST, "&bottom, 64)", "&bottom, 65)"),

@@ -41,7 +41,7 @@ impl Figures {
     }
 }
 
-/// What is wrong with a drawing.
+/// Why a call on a drawing is refused.
 #[derive(Clone, Copy, Debug, PartialEq, Eq)]
 pub struct Fault {
     pub refusal: Refusal,
@@ -77,11 +77,21 @@ impl std::error::Error for Fault {}
 #[derive(Clone, Copy, Debug, Default, PartialEq, Eq)]
 pub struct NetRecord {
     /// The column of the first pin, counted from 1.
-    pub first: u16,
+    pub first: u32,
     /// The column of the last pin.
-    pub last: u16,
+    pub last: u32,
     /// How many pins the net has.
-    pub pins: u16,
+    pub pins: u32,
+    /// How many edges the net has in a drawing; 0 in a report without one.
+    pub length: u32,
+}
+
+impl NetRecord {
+    /// A table as the library takes it: its numbers, four for each record
+    /// without padding, and how many they are.
+    fn figures(table: &mut [NetRecord]) -> (*mut u32, usize) {
+        (table.as_mut_ptr().cast(), 4 * table.len())
+    }
 }
 
 /// The result for a number of the library: 0 is acceptance.
@@ -90,6 +100,12 @@ fn accept<T>(number: u16, value: T) -> Result<T, Refusal> {
         0 => Ok(value),
         _ => Err(Refusal::from_number(number).expect("the library's numbers are 0 to 17")),
     }
+}
+
+/// The result for the library's answer on a drawing.
+fn accept_drawing(answer: raw::Checked) -> Result<(), Fault> {
+    let raw::Checked { number, place, column, row } = answer;
+    accept(number, ()).map_err(|refusal| Fault { refusal, place, column, row })
 }
 
 /// The density of a channel, or refusal 4 to 7.
@@ -134,18 +150,37 @@ pub fn check(
     let r = unsafe {
         raw::gaxwethi_check(top.as_ptr(), n, bottom.as_ptr(), m, width, tracks, entries, len)
     };
-    let raw::Checked { number, place, column, row } = r;
-    accept(number, ()).map_err(|refusal| Fault { refusal, place, column, row })
+    accept_drawing(r)
 }
 
-/// Fills the first 256 records of a table, one for each net number; what
-/// follows keeps its contents. With refusal 4 to 7 or 9 nothing is written.
+/// Fills the first 256 records of a table, one for each net number, with length
+/// 0; what follows keeps its contents. With refusal 4 to 7 or 9 nothing is
+/// written.
 pub fn report(top: &[u16], bottom: &[u16], table: &mut [NetRecord]) -> Result<(), Refusal> {
-    let (n, m, len) = (top.len(), bottom.len(), 3 * table.len());
-    // A record is three numbers without padding.
-    let figures = table.as_mut_ptr().cast();
+    let (n, m) = (top.len(), bottom.len());
+    let (figures, len) = NetRecord::figures(table);
     let number = unsafe { raw::gaxwethi_report(top.as_ptr(), n, bottom.as_ptr(), m, figures, len) };
     accept(number, ())
+}
+
+/// Fills a table as [`report`] does, with the lengths in a drawing that
+/// [`check`] passes. With refusal 4 to 7, then 9, then 10 to 17 with its place
+/// nothing is written.
+pub fn report_drawing(
+    top: &[u16],
+    bottom: &[u16],
+    width: usize,
+    tracks: usize,
+    layout: &[u16],
+    table: &mut [NetRecord],
+) -> Result<(), Fault> {
+    let (n, m, len) = (top.len(), bottom.len(), layout.len());
+    let (top, bottom, entries) = (top.as_ptr(), bottom.as_ptr(), layout.as_ptr());
+    let (figures, count) = NetRecord::figures(table);
+    let r = unsafe {
+        raw::gaxwethi_report_drawing(top, n, bottom, m, width, tracks, entries, len, figures, count)
+    };
+    accept_drawing(r)
 }
 
 /// Column c, counted from 1, of a drawing: its 2t + 1 entries. The part is

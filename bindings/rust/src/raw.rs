@@ -80,9 +80,22 @@ extern "C" {
         n: usize,
         bottom: *const u16,
         m: usize,
-        figures: *mut u16,
+        figures: *mut u32,
         len: usize,
     ) -> u16;
+
+    pub fn gaxwethi_report_drawing(
+        top: *const u16,
+        n: usize,
+        bottom: *const u16,
+        m: usize,
+        w: usize,
+        t: usize,
+        layout: *const u16,
+        len: usize,
+        figures: *mut u32,
+        count: usize,
+    ) -> Checked;
 
     pub fn gaxwethi_column(len: usize, w: usize, t: usize, c: usize) -> Part;
 

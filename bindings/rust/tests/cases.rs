@@ -63,15 +63,53 @@ fn loose_ends_have_a_column_and_a_row() {
     assert_eq!(check(&[], &[], 0, 2, &[]), Ok(()));
 }
 
+/// What stands in a table before a call.
+const KEPT: NetRecord = NetRecord { first: 6, last: 7, pins: 8, length: 9 };
+
 #[test]
 fn report_of_case_f() {
-    let kept = NetRecord { first: 7, last: 8, pins: 9 };
-    let mut table = vec![kept; 257];
+    let mut table = vec![KEPT; 257];
     report(&[1, 1, 1], &[0, 0, 0], &mut table).unwrap();
-    assert_eq!(table[0], NetRecord { first: 1, last: 3, pins: 3 });
+    assert_eq!(table[0], NetRecord { first: 1, last: 3, pins: 3, length: 0 });
     assert!(table[1..256].iter().all(|record| *record == NetRecord::default()));
-    assert_eq!(table[256], kept);
+    assert_eq!(table[256], KEPT);
     assert_eq!(report(&[], &[], &mut table[..255]), Err(Refusal::TableTooShort));
+}
+
+/// Case D as the paper lists it.
+const DRAWING_D: [u16; 15] = [2, 0, 1, 2, 1, 1, 2, 2, 1, 1, 0, 1, 0, 0, 0];
+
+#[test]
+fn lengths_of_case_d() {
+    let mut table = vec![KEPT; 257];
+    report_drawing(&[1, 2], &[2, 1], 3, 2, &DRAWING_D, &mut table).unwrap();
+    // Verticals in columns 1, 2 and 3; track 2 from column 1; both tracks from 2.
+    assert_eq!(table[0], NetRecord { first: 1, last: 2, pins: 2, length: 6 });
+    // A vertical and track 1 in column 1; two verticals in column 2.
+    assert_eq!(table[1], NetRecord { first: 1, last: 2, pins: 2, length: 4 });
+    assert!(table[2..256].iter().all(|record| *record == NetRecord::default()));
+    assert_eq!(table[256], KEPT);
+}
+
+#[test]
+fn refused_reports_on_drawings() {
+    let refused = |bottom: &[u16], w, layout: &[u16], records| {
+        let mut table = vec![KEPT; records];
+        let fault = report_drawing(&[1, 2], bottom, w, 2, layout, &mut table).unwrap_err();
+        assert_eq!(table, vec![KEPT; records]);
+        (fault.refusal.number(), fault.place, fault.column, fault.row)
+    };
+    assert_eq!(refused(&[2], 0, &[], 255), (4, 0, 0, 0));
+    assert_eq!(refused(&[2, 1], 1, &DRAWING_D, 255), (9, 0, 0, 0));
+    assert_eq!(refused(&[2, 1], 1, &DRAWING_D, 256), (10, 0, 0, 0));
+    let with = |place: usize, entry| {
+        let mut layout = DRAWING_D;
+        layout[place] = entry;
+        layout
+    };
+    assert_eq!(refused(&[2, 1], 3, &with(1, 3), 256), (13, 1, 0, 0));
+    assert_eq!(refused(&[2, 1], 3, &with(11, 0), 256), (16, 1, 0, 0));
+    assert_eq!(refused(&[2, 1], 3, &with(1, 2), 257), (17, 2, 1, 2));
 }
 
 #[test]

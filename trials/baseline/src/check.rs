@@ -1,6 +1,6 @@
 //! A checker in one pass, with labels and a union-find over them.
 
-use crate::rows::nets;
+use crate::rows::{nets, Nets};
 
 /// A net with a single edge at a grid point.
 struct LooseEnd {
@@ -114,13 +114,30 @@ pub struct Checked {
     pub row: usize,
 }
 
+impl Checked {
+    pub fn refused(number: u16, place: usize) -> Checked {
+        Checked { number, place, ..Checked::default() }
+    }
+}
+
 /// Checks a drawing.
 pub fn check(top: &[u16], bottom: &[u16], w: usize, t: usize, layout: &[u16]) -> Checked {
-    let refused = |number, place| Checked { number, place, ..Checked::default() };
-    let nets = match nets(top, bottom, 256) {
-        Ok(nets) => nets,
-        Err(number) => return refused(number, 0),
-    };
+    match nets(top, bottom, 256) {
+        Ok(nets) => check_nets(&nets, top, bottom, w, t, layout),
+        Err(number) => Checked::refused(number, 0),
+    }
+}
+
+/// Checks a drawing of rows that are accepted, with their nets.
+pub fn check_nets(
+    nets: &Nets,
+    top: &[u16],
+    bottom: &[u16],
+    w: usize,
+    t: usize,
+    layout: &[u16],
+) -> Checked {
+    let refused = Checked::refused;
     if w < top.len() || w > 511 {
         return refused(10, 0);
     }

@@ -3,10 +3,12 @@
 
 pub mod check;
 pub mod list;
+pub mod report;
 pub mod route;
 pub mod rows;
 
 pub use check::{check, column, Checked};
 pub use list::list;
+pub use report::{report, report_drawing};
 pub use route::{need, route, Figures};
-pub use rows::{density, report};
+pub use rows::density;

@@ -1,4 +1,4 @@
-//! Row check, density and net report.
+//! Row check and density.
 
 /// First column, last column and pins of a net.
 #[derive(Clone, Copy, Default)]
@@ -59,16 +59,4 @@ pub fn densest(n: usize, nets: &Nets) -> usize {
 pub fn density(top: &[u16], bottom: &[u16]) -> Result<usize, u16> {
     let nets = nets(top, bottom, 256)?;
     Ok(densest(top.len(), &nets))
-}
-
-/// Fills the table of first column, last column and pins of nets 1 to 256.
-pub fn report(top: &[u16], bottom: &[u16], figures: &mut [u16]) -> Result<(), u16> {
-    let nets = nets(top, bottom, 256)?;
-    if figures.len() < 3 * 256 {
-        return Err(9);
-    }
-    for (record, net) in figures.chunks_exact_mut(3).zip(&nets[1..]) {
-        record.copy_from_slice(&[net.first, net.last, net.pins]);
-    }
-    Ok(())
 }

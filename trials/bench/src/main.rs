@@ -9,6 +9,7 @@
 mod channels;
 
 use channels::{cases, Case};
+use gaxwethi::NetRecord;
 use std::hint::black_box;
 use std::time::Instant;
 
@@ -113,6 +114,28 @@ fn check(cases: &[Case], repetitions: usize) -> Vec<f64> {
     medians(vec![Box::new(library), Box::new(rust)], cases, repetitions)
 }
 
+/// The report on a drawing; a side returns the length of net 1.
+fn report(cases: &[Case], repetitions: usize) -> Vec<f64> {
+    let library = |c: &Case, table: &mut [NetRecord]| {
+        gaxwethi::report_drawing(&c.top, &c.bottom, c.width, c.tracks, &c.drawing, table).unwrap();
+        table[0].length as usize
+    };
+    let rust = |c: &Case, figures: &mut [u32]| {
+        baseline::report_drawing(&c.top, &c.bottom, c.width, c.tracks, &c.drawing, figures);
+        figures[3] as usize
+    };
+    let (mut table, mut figures) = ([NetRecord::default(); 256], [0; 4 * 256]);
+    for case in cases {
+        library(case, &mut table);
+        rust(case, &mut figures);
+        let records = table.iter().flat_map(|r| [r.first, r.last, r.pins, r.length]);
+        assert!(records.eq(figures), "the reports differ");
+    }
+    let library = |c: &Case| library(c, &mut table);
+    let rust = |c: &Case| rust(c, &mut figures);
+    medians(vec![Box::new(library), Box::new(rust)], cases, repetitions)
+}
+
 /// A time in a fitting unit.
 fn shown(seconds: f64) -> String {
     match seconds * 1e9 {
@@ -135,7 +158,8 @@ fn main() {
     println!("    cargo run --release --manifest-path trials/Cargo.toml -p bench -- {repetitions} {columns}\n");
     println!("| call | n | pins | library | Rust | library / Rust | fill | library / fill |");
     println!("|---|---|---|---|---|---|---|---|");
-    let calls: [(&str, Measure); 3] = [("density", density), ("route", route), ("check", check)];
+    let calls: [(&str, Measure); 4] =
+        [("density", density), ("route", route), ("check", check), ("report", report)];
     for (call, measure) in calls {
         for n in [16, 64, 256] {
             for (pins, most) in [("2", 2), ("2 to 5", 5)] {

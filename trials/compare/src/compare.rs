@@ -20,6 +20,8 @@ pub struct Tally {
 
 const SHOWN: usize = 3;
 const MARK: u8 = 0xa5;
+/// The numbers of a net table.
+const TABLE: usize = 4 * 256;
 
 impl Tally {
     pub fn new() -> Tally {
@@ -74,8 +76,8 @@ impl Tally {
         self.channels += 1;
         self.counts(&c);
         self.routes(rng, &c);
-        self.drawings(rng, &c);
         self.reports(rng, &c);
+        self.drawings(rng, &c);
         self.lists(rng, &c);
     }
 
@@ -106,16 +108,52 @@ impl Tally {
         }
     }
 
-    fn checks(&mut self, c: &Channel, d: &Drawing) {
-        let second::Checked { number, place, column, row } =
-            second::check(&c.top, &c.bottom, d.w, d.t, &d.entries);
-        let library = library::check(&c.top, &c.bottom, d.w, d.t, &d.entries);
-        let call = format!("check, w {} t {}", d.w, d.t);
-        self.same(&call, c, number, Checked { number, place, column, row }, library);
+    /// The reports without a drawing, into tables just long enough, too short
+    /// and longer.
+    fn reports(&mut self, rng: &mut Rng, c: &Channel) {
+        for room in [TABLE, short_room(rng), long_room(rng)] {
+            let mut ours = table(room);
+            let mut theirs = ours.clone();
+            let (number, ()) = split(second::report(&c.top, &c.bottom, &mut ours));
+            let library = library::report(&c.top, &c.bottom, &mut theirs);
+            self.same("report", c, number, number, library);
+            self.tables(c, number, &ours, &theirs);
+        }
     }
 
-    /// The checkers on the library's drawing, on damaged ones, on some with more
-    /// wire and on scribbles.
+    /// The whole contents of two tables.
+    fn tables(&mut self, c: &Channel, number: u16, ours: &[u32], theirs: &[u32]) {
+        let place = ours.iter().zip(theirs).position(|(a, b)| a != b);
+        self.same("table, first different number", c, number, None, place);
+    }
+
+    /// The checkers on a drawing, and the reports on it.
+    fn drawing(&mut self, rng: &mut Rng, c: &Channel, d: &Drawing) {
+        let ours = second::check(&c.top, &c.bottom, d.w, d.t, &d.entries);
+        let library = library::check(&c.top, &c.bottom, d.w, d.t, &d.entries);
+        let call = format!("check, w {} t {}", d.w, d.t);
+        self.same(&call, c, ours.number, checked(ours), library);
+        self.report_drawing(rng, c, d);
+    }
+
+    /// The reports on a drawing, into a table of any of these lengths.
+    fn report_drawing(&mut self, rng: &mut Rng, c: &Channel, d: &Drawing) {
+        let room = match rng.under(4) {
+            0 => short_room(rng),
+            1 => long_room(rng),
+            _ => TABLE,
+        };
+        let mut ours = table(room);
+        let mut theirs = ours.clone();
+        let answer = second::report_drawing(&c.top, &c.bottom, d.w, d.t, &d.entries, &mut ours);
+        let library = library::report_drawing(&c.top, &c.bottom, d.w, d.t, &d.entries, &mut theirs);
+        let call = format!("report on a drawing, w {} t {}", d.w, d.t);
+        self.same(&call, c, answer.number, checked(answer), library);
+        self.tables(c, answer.number, &ours, &theirs);
+    }
+
+    /// The library's drawing, damaged ones, some with more wire, scribbles and
+    /// meshes.
     fn drawings(&mut self, rng: &mut Rng, c: &Channel) {
         let mut entries = vec![0; second::need(&c.top, &c.bottom).unwrap_or(6)];
         let routed = library::route(&c.top, &c.bottom, &mut entries);
@@ -127,24 +165,29 @@ impl Tally {
         entries.truncate(used);
         let mut drawing = Drawing { w, t, entries };
         self.columns(rng, c, &drawing);
-        self.checks(c, &drawing);
+        self.drawing(rng, c, &drawing);
         if rng.percent(20) {
             drawing.widen(rng.from(1, 3));
             drawing.heighten(drawing.t);
-            self.checks(c, &drawing);
+            self.drawing(rng, c, &drawing);
         }
         let large = drawing.entries.len() > 20_000;
         for _ in 0..if large { 1 } else { 4 } {
             let mut damaged = drawing.clone();
             damage::drawing(rng, c, &mut damaged);
-            self.checks(c, &damaged);
+            self.drawing(rng, c, &damaged);
         }
         for _ in 0..if large { 1 } else { 3 } {
-            self.checks(c, &damage::grown(rng, &drawing));
+            let grown = damage::grown(rng, &drawing);
+            self.drawing(rng, c, &grown);
         }
         if c.top.len() <= 6 {
             for _ in 0..6 {
-                self.checks(c, &damage::scribble(rng, c));
+                let scribble = damage::scribble(rng, c);
+                self.drawing(rng, c, &scribble);
+            }
+            if let Some(mesh) = damage::mesh(rng, c) {
+                self.drawing(rng, c, &mesh);
             }
         }
     }
@@ -163,18 +206,6 @@ impl Tally {
             let library = library::column(len, w, t, at);
             let call = format!("column {at} of {len} entries, w {w} t {t}");
             self.same(&call, c, 0, ours, library);
-        }
-    }
-
-    fn reports(&mut self, rng: &mut Rng, c: &Channel) {
-        for room in [768, rng.pick(&[0, 3, 765, 766, 767]), rng.from(769, 780)] {
-            let mut ours: Vec<u16> = (0..room).map(|i| 50000 + i as u16).collect();
-            let mut theirs = ours.clone();
-            let (number, ()) = split(second::report(&c.top, &c.bottom, &mut ours));
-            let library = library::report(&c.top, &c.bottom, &mut theirs);
-            self.same("report", c, number, number, library);
-            let place = ours.iter().zip(&theirs).position(|(a, b)| a != b);
-            self.same("table, first different number", c, number, None, place);
         }
     }
 
@@ -203,6 +234,27 @@ impl Tally {
         let place = spilt.map(|place| length + place);
         self.same("list, first byte written after the text", c, number, None, place);
     }
+}
+
+/// A table of that many numbers, with something in it.
+fn table(room: usize) -> Vec<u32> {
+    (0..room).map(|i| 0xa5a5_0000 + i as u32).collect()
+}
+
+/// The length of a table that is too short.
+fn short_room(rng: &mut Rng) -> usize {
+    rng.pick(&[0, 4, TABLE - 4, TABLE - 3, TABLE - 2, TABLE - 1])
+}
+
+/// The length of a table with room for more.
+fn long_room(rng: &mut Rng) -> usize {
+    TABLE + rng.from(1, 16)
+}
+
+/// The second checker's answer in the library's form.
+fn checked(answer: second::Checked) -> Checked {
+    let second::Checked { number, place, column, row } = answer;
+    Checked { number, place, column, row }
 }
 
 /// The number and the figures of an answer: zeros on refusal.

@@ -37,6 +37,17 @@ impl Drawing {
         self.entries = entries;
     }
 
+    /// Sets the pin edges right and takes the last column's horizontal edges away.
+    fn bound(&mut self, channel: &Channel) {
+        let (t, each) = (self.t, self.each());
+        for (c, column) in self.entries.chunks_mut(each).enumerate() {
+            column[0] = channel.bottom.get(c).copied().unwrap_or(0);
+            column[t] = channel.top.get(c).copied().unwrap_or(0);
+        }
+        let kept = self.entries.len().saturating_sub(t);
+        self.entries[kept..].fill(0);
+    }
+
     /// The positions of the edges.
     fn edges(&self) -> Vec<usize> {
         (0..self.entries.len()).filter(|&i| self.entries[i] != 0).collect()
@@ -168,20 +179,25 @@ pub fn scribble(rng: &mut Rng, channel: &Channel) -> Drawing {
     let mut nets: Vec<u16> = channel.top.iter().chain(&channel.bottom).copied().collect();
     nets.retain(|&net| net != 0);
     let mut drawing = Drawing { w, t, entries: vec![0; w * (2 * t + 1)] };
-    let each = drawing.each();
     let blank = rng.pick(&[0, 10, 30, 60]);
     if !nets.is_empty() {
         for entry in &mut drawing.entries {
             *entry = if rng.percent(blank) { 0 } else { rng.pick(&nets) };
         }
     }
-    for (c, column) in drawing.entries.chunks_mut(each).enumerate() {
-        column[0] = channel.bottom.get(c).copied().unwrap_or(0);
-        column[t] = channel.top.get(c).copied().unwrap_or(0);
-    }
-    let kept = drawing.entries.len().saturating_sub(t);
-    drawing.entries[kept..].fill(0);
+    drawing.bound(channel);
     drawing
+}
+
+/// A drawing that is full of a channel's first net: a solution if the channel
+/// has no other. Now and then that net has over 65,535 edges.
+pub fn mesh(rng: &mut Rng, channel: &Channel) -> Option<Drawing> {
+    let net = *channel.top.iter().chain(&channel.bottom).find(|&&net| net != 0)?;
+    let (more, t) = if rng.percent(2) { (200, 200) } else { (rng.under(9), rng.under(9)) };
+    let w = channel.top.len() + more;
+    let mut drawing = Drawing { w, t, entries: vec![net; w * (2 * t + 1)] };
+    drawing.bound(channel);
+    Some(drawing)
 }
 
 /// Damages rows so that most are refused.

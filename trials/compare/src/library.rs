@@ -21,9 +21,23 @@ pub fn check(top: &[u16], bottom: &[u16], w: usize, t: usize, layout: &[u16]) ->
     unsafe { gaxwethi_check(top.as_ptr(), n, bottom.as_ptr(), m, w, t, layout.as_ptr(), len) }
 }
 
-pub fn report(top: &[u16], bottom: &[u16], figures: &mut [u16]) -> u16 {
+pub fn report(top: &[u16], bottom: &[u16], figures: &mut [u32]) -> u16 {
     let (n, m, len) = (top.len(), bottom.len(), figures.len());
     unsafe { gaxwethi_report(top.as_ptr(), n, bottom.as_ptr(), m, figures.as_mut_ptr(), len) }
+}
+
+pub fn report_drawing(
+    top: &[u16],
+    bottom: &[u16],
+    w: usize,
+    t: usize,
+    layout: &[u16],
+    figures: &mut [u32],
+) -> Checked {
+    let (n, m, len, count) = (top.len(), bottom.len(), layout.len(), figures.len());
+    let (top, bottom, layout) = (top.as_ptr(), bottom.as_ptr(), layout.as_ptr());
+    let figures = figures.as_mut_ptr();
+    unsafe { gaxwethi_report_drawing(top, n, bottom, m, w, t, layout, len, figures, count) }
 }
 
 pub fn column(len: usize, w: usize, t: usize, c: usize) -> Part {

@@ -6,10 +6,10 @@ use crate::{Checked, LIMIT, MOST_COLUMNS, MOST_NETS};
 use std::ops::Range;
 
 /// A drawing: width, tracks and entries.
-struct Drawing<'a> {
-    w: usize,
-    t: usize,
-    entries: &'a [u16],
+pub struct Drawing<'a> {
+    pub w: usize,
+    pub t: usize,
+    pub entries: &'a [u16],
 }
 
 impl Drawing<'_> {
@@ -58,6 +58,19 @@ impl Drawing<'_> {
             }
         }
         at
+    }
+
+    /// The edges of each net, counted over the grid; place 0 has the blanks.
+    pub fn lengths(&self) -> Vec<usize> {
+        let mut lengths = vec![0; MOST_NETS + 1];
+        for c in 0..self.w {
+            let vertical = (0..=self.t).map(|y| self.vertical(c, y));
+            let leaving = (1..=self.t).map(|y| self.horizontal(c, y));
+            for position in vertical.chain(leaving) {
+                lengths[self.entries[position] as usize] += 1;
+            }
+        }
+        lengths
     }
 
     /// The number of edges that hang together with the one at a position.

@@ -1,4 +1,4 @@
-//! A second knock-knee channel router and checker.
+//! A second knock-knee channel router, checker and net report.
 //!
 //! It was written from documents 01 and 02 alone and shares no code with the
 //! library. It keeps to their words and does everything in the plainest
@@ -7,12 +7,14 @@
 
 pub mod check;
 pub mod record;
+pub mod report;
 pub mod rows;
 pub mod sweep;
 
 pub use check::{check, column};
 pub use record::{list, printed};
-pub use rows::{density, need, report};
+pub use report::{report, report_drawing};
+pub use rows::{density, need};
 pub use sweep::route;
 
 /// The most columns that a library call takes.

@@ -1,5 +1,5 @@
-//! What the rows alone settle: refusals 4 to 7, density, tracks, the slice
-//! length that a layout needs, and the net report.
+//! What the rows alone settle: refusals 4 to 7, density, tracks, and the slice
+//! length that a layout needs.
 
 use crate::{MOST_COLUMNS, MOST_NETS};
 
@@ -102,24 +102,4 @@ pub fn need(top: &[u16], bottom: &[u16]) -> Result<usize, u16> {
     let nets = nets(top, bottom, MOST_COLUMNS)?;
     let d = density_of(&nets, top.len());
     Ok(room(top.len(), tracks_of(&nets, d)))
-}
-
-/// Fills a table of (first column, last column, pins), three numbers for each
-/// net. A refused call leaves the table as it was.
-pub fn report(top: &[u16], bottom: &[u16], figures: &mut [u16]) -> Result<(), u16> {
-    let nets = nets(top, bottom, MOST_COLUMNS)?;
-    if figures.len() / 3 < MOST_NETS {
-        return Err(9);
-    }
-    for (i, record) in figures.chunks_exact_mut(3).take(MOST_NETS).enumerate() {
-        let net = i as u16 + 1;
-        let filled = match nets.pins(net) {
-            0 => [0; 3],
-            pins => [nets.first(net), nets.last(net), pins],
-        };
-        for (slot, value) in record.iter_mut().zip(filled) {
-            *slot = value as u16;
-        }
-    }
-    Ok(())
 }

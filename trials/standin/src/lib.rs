@@ -54,6 +54,13 @@ fn figure(call: impl FnOnce() -> Result<usize, u16>) -> Figure {
     }
 }
 
+fn checked(call: impl FnOnce() -> baseline::Checked) -> Checked {
+    match guarded(|| Ok(call())) {
+        Ok(c) => Checked { number: c.number, place: c.place, column: c.column, row: c.row },
+        Err(number) => Checked { number, place: 0, column: 0, row: 0 },
+    }
+}
+
 /// # Safety
 /// As in `include/gaxwethi.h`; so it is for all calls below.
 #[no_mangle]
@@ -111,10 +118,7 @@ pub unsafe extern "C" fn gaxwethi_check(
 ) -> Checked {
     let (top, bottom) = (from_raw_parts(top, n), from_raw_parts(bottom, m));
     let layout = from_raw_parts(layout, len);
-    match guarded(|| Ok(baseline::check(top, bottom, w, t, layout))) {
-        Ok(c) => Checked { number: c.number, place: c.place, column: c.column, row: c.row },
-        Err(number) => Checked { number, place: 0, column: 0, row: 0 },
-    }
+    checked(|| baseline::check(top, bottom, w, t, layout))
 }
 
 /// # Safety
@@ -124,12 +128,32 @@ pub unsafe extern "C" fn gaxwethi_report(
     n: usize,
     bottom: *const u16,
     m: usize,
-    figures: *mut u16,
+    figures: *mut u32,
     len: usize,
 ) -> u16 {
     let (top, bottom) = (from_raw_parts(top, n), from_raw_parts(bottom, m));
     let figures = from_raw_parts_mut(figures, len);
     guarded(|| baseline::report(top, bottom, figures)).err().unwrap_or(0)
+}
+
+/// # Safety
+#[no_mangle]
+pub unsafe extern "C" fn gaxwethi_report_drawing(
+    top: *const u16,
+    n: usize,
+    bottom: *const u16,
+    m: usize,
+    w: usize,
+    t: usize,
+    layout: *const u16,
+    len: usize,
+    figures: *mut u32,
+    count: usize,
+) -> Checked {
+    let (top, bottom) = (from_raw_parts(top, n), from_raw_parts(bottom, m));
+    let layout = from_raw_parts(layout, len);
+    let figures = from_raw_parts_mut(figures, count);
+    checked(|| baseline::report_drawing(top, bottom, w, t, layout, figures))
 }
 
 #[no_mangle]

@@ -1,21 +1,52 @@
-//! Compares the second router and checker with files of worked cases:
-//! `vectors FILE ...`, where the names end in routes.txt, checks.txt or
-//! listings.txt. A case ends at an empty line.
+//! Compares the second router, checker and net report with files of worked
+//! cases: `vectors FILE ...`, where the names end in routes.txt, checks.txt,
+//! listings.txt, reports.txt or long.txt. A case ends at an empty line.
 
+use second::{Checked, MOST_NETS};
 use std::process::ExitCode;
+use std::str::FromStr;
 
-/// The numbers of a line that begins with a word.
-fn values<T: std::str::FromStr>(case: &[&str], word: &str) -> Vec<T> {
-    let line = case.iter().find(|line| line.split(' ').next() == Some(word));
-    let line = line.unwrap_or_else(|| panic!("no line {word:?} in {case:?}"));
+/// The numbers of a line; words are passed over.
+fn numbers<T: FromStr>(line: &str) -> Vec<T> {
     let number = |x: &&str| !x.starts_with(|c: char| c.is_alphabetic());
-    let parse = |x: &str| x.parse().unwrap_or_else(|_| panic!("{x:?} in {case:?}"));
+    let parse = |x: &str| x.parse().unwrap_or_else(|_| panic!("{x:?} in {line:?}"));
     line.split_whitespace().filter(number).map(parse).collect()
+}
+
+/// The lines of a case that begin with a word, as numbers.
+fn lines<'a, T: FromStr>(case: &'a [&str], word: &'a str) -> impl Iterator<Item = Vec<T>> + 'a {
+    case.iter().filter(move |line| line.split(' ').next() == Some(word)).map(|line| numbers(line))
+}
+
+/// The first of these lines.
+fn values<T: FromStr>(case: &[&str], word: &str) -> Vec<T> {
+    lines(case, word).next().unwrap_or_else(|| panic!("no line {word:?} in {case:?}"))
+}
+
+/// A run of equal entries: 5x199 is the entry 5, 199 times.
+struct Run {
+    entry: u16,
+    times: usize,
+}
+
+impl FromStr for Run {
+    type Err = std::num::ParseIntError;
+
+    fn from_str(text: &str) -> Result<Run, Self::Err> {
+        let (entry, times) = text.split_once('x').unwrap_or((text, "1"));
+        Ok(Run { entry: entry.parse()?, times: times.parse()? })
+    }
+}
+
+/// The entries of a drawing.
+fn layout(case: &[&str]) -> Vec<u16> {
+    let runs = values::<Run>(case, "layout").into_iter();
+    runs.flat_map(|run| std::iter::repeat_n(run.entry, run.times)).collect()
 }
 
 fn route_agrees(case: &[&str]) -> bool {
     let (top, bottom) = (values(case, "top"), values(case, "bottom"));
-    let (figures, layout) = (values::<usize>(case, "density"), values::<u16>(case, "layout"));
+    let (figures, layout) = (values::<usize>(case, "density"), layout(case));
     let Ok(need) = second::need(&top, &bottom) else {
         return false;
     };
@@ -26,20 +57,20 @@ fn route_agrees(case: &[&str]) -> bool {
     got == Ok(wanted)
         && second::density(&top, &bottom) == Ok(wanted.density)
         && drawn[..used] == layout[..]
-        && second::check(&top, &bottom, wanted.width, wanted.tracks, &layout)
-            == second::Checked::default()
+        && second::check(&top, &bottom, wanted.width, wanted.tracks, &layout) == Checked::default()
 }
 
-/// An answer without column and row is from before Job 1, when a loose end
-/// passed; one with them has the numbers of Job 8, which divides 14 into 14, 19
-/// and 20.
-fn check_agrees(case: &[&str]) -> bool {
-    let (top, bottom) = (values(case, "top"), values(case, "bottom"));
-    let (size, layout) = (values::<isize>(case, "width"), values::<u16>(case, "layout"));
+/// The width and the tracks of a drawing. A width of -1, one less than no
+/// columns, is the largest number here.
+fn measures(size: &[isize]) -> (usize, usize) {
+    (size[0] as usize, size[1] as usize)
+}
+
+/// Whether an answer is a case's. One without column and row is from before
+/// Job 1, when a loose end passed; one with them has the numbers of Job 8, which
+/// divides 14 into 14, 19 and 20.
+fn answer_agrees(case: &[&str], got: Checked) -> bool {
     let mut wanted = values::<usize>(case, "number");
-    // A width of -1, one less than no columns, is the largest number here.
-    let (w, t) = (size[0] as usize, size[1] as usize);
-    let got = second::check(&top, &bottom, w, t, &layout);
     let (number, place) = (got.number as usize, got.place);
     if wanted.len() == 2 {
         return wanted == if number == 17 { [0, 0] } else { [number, place] };
@@ -48,6 +79,38 @@ fn check_agrees(case: &[&str]) -> bool {
         wanted[0] = 14;
     }
     wanted == [number, place, got.column, got.row]
+}
+
+fn check_agrees(case: &[&str]) -> bool {
+    let (top, bottom) = (values(case, "top"), values(case, "bottom"));
+    let (w, t) = measures(&values(case, "width"));
+    answer_agrees(case, second::check(&top, &bottom, w, t, &layout(case)))
+}
+
+/// Whether the report agrees, with the whole contents of the table.
+fn report_agrees(case: &[&str]) -> bool {
+    const KEPT: u32 = 70_007;
+    let (top, bottom) = (values(case, "top"), values(case, "bottom"));
+    let mut wanted = vec![KEPT; 4 * values::<usize>(case, "table")[0]];
+    let mut figures = wanted.clone();
+    let got = match lines(case, "width").next() {
+        Some(size) => {
+            let (w, t) = measures(&size);
+            second::report_drawing(&top, &bottom, w, t, &layout(case), &mut figures)
+        }
+        None => {
+            let number = second::report(&top, &bottom, &mut figures).err().unwrap_or(0);
+            Checked { number, ..Checked::default() }
+        }
+    };
+    if values::<u16>(case, "number")[0] == 0 {
+        wanted[..4 * MOST_NETS].fill(0);
+    }
+    for net in lines::<u32>(case, "net") {
+        let record = 4 * (net[0] as usize - 1);
+        wanted[record..record + 4].copy_from_slice(&net[1..]);
+    }
+    answer_agrees(case, got) && figures == wanted
 }
 
 fn listing_agrees(case: &[&str]) -> bool {
@@ -64,7 +127,8 @@ fn kind(file: &str) -> fn(&[&str]) -> bool {
         _ if file.ends_with("routes.txt") => route_agrees,
         _ if file.ends_with("checks.txt") => check_agrees,
         _ if file.ends_with("listings.txt") => listing_agrees,
-        _ => panic!("{file}: neither routes, checks nor listings"),
+        _ if file.ends_with("reports.txt") || file.ends_with("long.txt") => report_agrees,
+        _ => panic!("{file}: neither routes, checks, listings nor reports"),
     }
 }
 

@@ -1,0 +1,91 @@
+//! The library on the worked cases of the net report, `tools/cases/job2-*.txt`.
+//! A case is lines of a word and numbers, then an empty line.
+
+use gaxwethi::*;
+
+/// What stands in a table before a call.
+const KEPT: NetRecord = NetRecord { first: 6, last: 7, pins: 8, length: 9 };
+
+/// The numbers of a line after its first word, where 5x199 is the number 5, 199
+/// times; names between the numbers are passed over.
+fn numbers(line: &str) -> Vec<usize> {
+    let tokens = line.split(' ').skip(1);
+    let run = |token: &str| {
+        let (number, times) = token.split_once('x').unwrap_or((token, "1"));
+        Some(std::iter::repeat_n(number.parse().ok()?, times.parse().ok()?))
+    };
+    tokens.filter_map(run).flatten().collect()
+}
+
+/// The lines of a case that begin with a word, as numbers.
+fn lines<'a>(case: &'a str, word: &'a str) -> impl Iterator<Item = Vec<usize>> + 'a {
+    case.lines().filter(move |line| line.split(' ').next() == Some(word)).map(numbers)
+}
+
+/// The numbers of such a line, 16 bits each.
+fn words(case: &str, word: &str) -> Vec<u16> {
+    let line = lines(case, word).next().unwrap_or_else(|| panic!("no {word} in {case}"));
+    line.into_iter().map(|number| number.try_into().unwrap()).collect()
+}
+
+/// Number, place, column and row of the library's answer.
+fn answer(case: &str, table: &mut [NetRecord]) -> [usize; 4] {
+    let (top, bottom) = (words(case, "top"), words(case, "bottom"));
+    let reported = match lines(case, "width").next() {
+        Some(size) => {
+            report_drawing(&top, &bottom, size[0], size[1], &words(case, "layout"), table)
+        }
+        None => {
+            let plain = |refusal| Fault { refusal, place: 0, column: 0, row: 0 };
+            report(&top, &bottom, table).map_err(plain)
+        }
+    };
+    let Err(fault) = reported else { return [0; 4] };
+    [fault.refusal.number().into(), fault.place, fault.column, fault.row]
+}
+
+/// The worked answer. Its number is that of Job 8, which divides 14 into 14, 19
+/// and 20.
+fn wanted(case: &str) -> [usize; 4] {
+    let mut answer: [usize; 4] = lines(case, "number").next().unwrap().try_into().unwrap();
+    if matches!(answer[0], 19 | 20) {
+        answer[0] = 14;
+    }
+    answer
+}
+
+/// What a table must hold after a case.
+fn filled(case: &str, records: usize) -> Vec<NetRecord> {
+    let mut table = vec![KEPT; records];
+    if wanted(case)[0] == 0 {
+        table[..256].fill(NetRecord::default());
+    }
+    for line in lines(case, "net") {
+        let [net, first, last, pins, length] = line.try_into().unwrap();
+        let [first, last, pins, length] = [first, last, pins, length].map(|x| x as u32);
+        table[net - 1] = NetRecord { first, last, pins, length };
+    }
+    table
+}
+
+/// Runs the cases of a text and counts them.
+fn run(text: &str) -> usize {
+    let cases = text.split("\n\n").filter(|case| !case.is_empty());
+    let tried = |case: &str| {
+        let records = lines(case, "table").next().unwrap()[0];
+        let mut table = vec![KEPT; records];
+        assert_eq!(answer(case, &mut table), wanted(case), "{case}");
+        assert!(table == filled(case, records), "another table:\n{case}");
+    };
+    cases.map(tried).count()
+}
+
+#[test]
+fn worked_reports() {
+    assert_eq!(run(include_str!("../../../tools/cases/job2-reports.txt")), 1573);
+}
+
+#[test]
+fn lengths_over_16_bits() {
+    assert_eq!(run(include_str!("../../../tools/cases/job2-long.txt")), 2);
+}
