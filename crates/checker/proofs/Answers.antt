@@ -19,7 +19,7 @@ use Rattle.grid.specs.Answers as rows
 use Rattle.grid.proofs.Tests.{eq-eqb, ne-eqb, lt-ltb, le-ltb}
 use Rattle.grid.proofs.Rows.{rows-fit}
 use Rattle.grid.proofs.Tables.{table-length, table-at}
-use Rattle.grid.proofs.Answers.{check-number, told, accepted-new}
+use Rattle.grid.proofs.Answers.{first-here, check-number, told, accepted-new}
 use Rattle.grid.proofs.Answers as answers
 use Rattle.checker.specs.declared.Checked.{Checked}
 use Rattle.checker.specs.declared.Checked.the-variants.{Passed}
@@ -240,11 +240,6 @@ rows-low top bottom most =
     go false false true d = omega arith
     go false false false true = omega arith
     go false false false false = omega arith
-
--- a number that is not 0 comes first
-first-here : (k m : ℕ) → k ≢ 0 → firstRefusal k m ≡ k
-first-here zero m n = absurd (n refl)
-first-here (suc k) m n = refl
 
 module _ (top bottom : List ℕ) where
   -- 4 to 7

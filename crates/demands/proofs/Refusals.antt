@@ -4,7 +4,6 @@ use mathlib.Core.Path.{_≡_, refl, sym, subst, ap, _∙_}
 use mathlib.Core.Logic.{_⊎_}
 use mathlib.Core.List.{List}
 use native.Mathlib.Omega.{arith}
-use lib.ListN.{length}
 use Rattle.grid.specs.Channel.{rowsRefused}
 use Rattle.grid.specs.Answers as counting
 use Rattle.grid.proofs.Answers.{check-number, check-figures, density-number, density-figure, accepted-old, no-later}

@@ -56,7 +56,7 @@ module _ (top bottom : List ℕ) (old : List NetRecord) (d : NetRecord) where
       record {
         each = λ e. record-at top bottom drawing D old d (let-through drawing D e);
         unused = λ e.
-            let (r, l, p) = report.let-through top bottom drawing D (length old) (let-through drawing D e) in
+            let (r, l, p) = report.accepted-report top bottom drawing D (length old) (let-through drawing D e) in
             unused top bottom drawing D r p;
         kept = record-kept top bottom drawing D old d;
       }

@@ -49,7 +49,7 @@ draws-solutions top bottom =
       checker = checker-passes top bottom;
       report = λ w t D lent. (
         (λ e.
-            let (z, l, p) = report.let-through top bottom (Given w t) D lent (sym (report.number top bottom (Given w t) D lent) ∙ e) in
+            let (z, l, p) = report.accepted-report top bottom (Given w t) D lent (sym (report.number top bottom (Given w t) D lent) ∙ e) in
             let (r, a, b, s) = checker-passes top bottom w t D .0 (sym (same-number top bottom w t D lent l) ∙ e) in
             (r, l, a, b, s)),
         (λ p. let (r, l, a, b, s) = p in same-number top bottom w t D lent l ∙ checker-passes top bottom w t D .1 (r, a, b, s)),

@@ -1,24 +1,17 @@
--- The numbers of the net report, written from the front, and the call's ways out. Assumes nothing.
+-- The numbers of the net report, written from the front. Assumes nothing.
 use Prim.Native.Nat.{ℕ, zero, suc, _+_, _*_, _/_, _≤_, _<_}
 use mathlib.Core.Path.{_≡_, refl, sym, ap, _∙_}
-use mathlib.Core.Logic.{_≢_}
-use mathlib.Core.List.{List, [], _∷_, _++_, append-nil, append-assoc}
+use mathlib.Core.List.{List, [], _∷_, _++_, append-assoc}
 use native.Mathlib.Omega.{arith}
 use native.Mathlib.Numerals.{add-one}
 use lib.ListN.{length, take, drop, getD, set, length-append, length-drop}
 use lib.Seq.{take-suc, take-all, length-take-le}
-use Rattle.grid.specs.Channel.{rowsRefused}
-use Rattle.grid.specs.Refusals.{firstRefusal, ifAccepted}
-use Rattle.grid.proofs.Answers.{accepted-old}
-use Rattle.checker.specs.declared.Fault.{Fault}
-use Rattle.checker.proofs.Answers.{rows-low}
+use Rattle.grid.specs.Refusals.{ifAccepted}
 use Rattle.report.specs.declared.NetRecord.{NetRecord}
-use Rattle.report.specs.declared.Reported.{Reported}
 use Rattle.report.specs.declared.Drawing.{Drawing}
-use Rattle.report.specs.Report.{faultOf, answerOf, faultWith, blankTable, records, refused, reported, tableAfter}
-use Rattle.report.specs.Working.{numbered}
-use Rattle.report.proofs.Answers.{number, by-long, short-refused, short-fault, table-filled}
-use Rattle.report.proofs.Records.{zeroRecord, one-more, blank-long, blank-behind}
+use Rattle.report.specs.declared.Collected.{Collected}
+use Rattle.report.specs.Report.{blankTable, records, refused, collected}
+use Rattle.report.proofs.Records.{zeroRecord, one-more, records-long}
 use Rattle.export.specs.Export.{flat, figuresAfter}
 use Rattle.export.specs.Working.{netPut}
 
@@ -84,67 +77,17 @@ module _ (xs : List NetRecord) (old : List ℕ) where
       ∙ ap (λ (l : List ℕ). l ++ drop (4 * k + 4) old) (flat-suc xs k r g i)
       ∙ ap (λ (m : ℕ). flat (take (k + 1) xs) ++ drop m old) n
 
-  -- those of all records
-  pub all-put : (now : List ℕ) (k : ℕ) → k ≡ 256 → length xs ≡ 256 → now ≡ flat (take k xs) ++ drop (4 * k) old → now ≡ flat xs ++ drop 1024 old
-  all-put now k z l e =
-      e ∙ ap (λ (m : ℕ). flat (take m xs) ++ drop (4 * m) old) z
-      ∙ ap (λ (ys : List NetRecord). flat ys ++ drop 1024 old) (take-all 256 xs (omega arith))
+-- WHAT THE CALL LEAVES
 
--- THE FIRST NUMBER of a place, k, and of the one after it
-pub first-here : (k here later : ℕ) → k ≡ here → k ≢ 0 → k ≡ firstRefusal here later
-first-here k zero later e n = absurd (n e)
-first-here k (suc h) later e n = e
-
-pub first-after : (k here later : ℕ) → k ≡ here → k ≡ 0 → later ≡ firstRefusal here later
-first-after k zero later e z = refl
-first-after k (suc h) later e z = absurd (omega arith)
-
--- THE WAYS OUT OF `report_numbers`
-
-module _ (top bottom : List ℕ) (drawing : Drawing) (D old : List ℕ) where
-  -- what it promises
-  abbrev pub Reports : Fault → List ℕ → Type 0
-  Reports f now = (f ≡ faultOf (reported top bottom drawing D (length old / 4))) × (now ≡ figuresAfter top bottom drawing D old)
-
-  -- a refused call leaves the table as it is
-  kept-figures : refused top bottom drawing D (length old / 4) ≢ 0 → old ≡ figuresAfter top bottom drawing D old
-  unfolding figuresAfter
-  kept-figures n = sym (accepted-old (refused top bottom drawing D (length old / 4)) (flat (records top bottom drawing D) ++ drop 1024 old) old n)
-
-  -- an accepted one leaves the records of the nets, and what stood behind them
-  put-figures : refused top bottom drawing D (length old / 4) ≡ 0 → flat (records top bottom drawing D) ++ drop 1024 old ≡ figuresAfter top bottom drawing D old
-  unfolding figuresAfter
-  put-figures z = sym (ap (λ (j : ℕ). ifAccepted j (flat (records top bottom drawing D) ++ drop 1024 old) old) z)
-
-  -- a table that is too short
-  pub short-table : (f : Fault) → length old < 1024 → f ≡ numbered (firstRefusal (rowsRefused top bottom 256) 9) → Reports f old
-  short-table f h is = (
-    is ∙ sym (short-fault top bottom drawing D (length old / 4) (omega arith)),
-    kept-figures (short-refused top bottom drawing D (length old / 4) (omega arith)),
-  )
-
-  module _ (h : 1024 ≤ length old) (a : Reported) (f : Fault) (e : a ≡ reported top bottom drawing D 256) (i : f ≡ faultOf a) where
-    -- as long a table as the report's own
-    same-number : refused top bottom drawing D 256 ≡ refused top bottom drawing D (length old / 4)
-    same-number = sym (by-long top bottom drawing D 256 (omega arith)) ∙ by-long top bottom drawing D (length old / 4) (omega arith)
-
-    answers : f ≡ faultOf (reported top bottom drawing D (length old / 4))
-    unfolding reported
-    answers = i ∙ ap faultOf e ∙ ap (λ (k : ℕ). faultOf (answerOf k (faultWith top bottom drawing D k))) same-number
-
-    number-is : f .number ≡ refused top bottom drawing D (length old / 4)
-    number-is = ap (λ (g : Fault). g .number) answers ∙ number top bottom drawing D (length old / 4)
-
-    -- refused by the rows or the drawing
-    pub refused-table : f .number ≢ 0 → Reports f old
-    refused-table n = (answers, kept-figures (λ z. n (number-is ∙ z)))
-
-    -- filled
-    pub full-table : (nets : List NetRecord) (now : List ℕ) → f .number ≡ 0 → nets ≡ tableAfter top bottom drawing D blankTable → now ≡ flat nets ++ drop 1024 old → Reports f now
-    full-table nets now z t p =
-        let c = sym number-is ∙ z in
-        let g = table-filled top bottom drawing D blankTable (ap (refused top bottom drawing D) blank-long ∙ same-number ∙ c) in
-        (answers, p ∙ ap (λ (l : List NetRecord). flat l ++ drop 1024 old) (t ∙ g ∙ none-behind) ∙ put-figures c)
-      where
-        none-behind : records top bottom drawing D ++ drop 256 blankTable ≡ records top bottom drawing D
-        none-behind = ap (λ (l : List NetRecord). records top bottom drawing D ++ l) blank-behind ∙ append-nil (records top bottom drawing D)
+-- the collected records as numbers, in front of the old ones
+pub put-collected : (top bottom : List ℕ) (drawing : Drawing) (D old : List ℕ) (c : Collected) → c ≡ collected top bottom drawing D (length old / 4)
+    → flat (take (c .count) (c .records)) ++ drop (4 * c .count) old ≡ figuresAfter top bottom drawing D old
+unfolding collected figuresAfter flat
+put-collected top bottom drawing D old c e =
+    ap (λ (d : Collected). flat (take (d .count) (d .records)) ++ drop (4 * d .count) old) e ∙ go (refused top bottom drawing D (length old / 4))
+  where
+    go : (k : ℕ) → flat (take (ifAccepted k 256 0) (ifAccepted k (records top bottom drawing D) blankTable)) ++ drop (4 * ifAccepted k 256 0) old
+        ≡ ifAccepted k (flat (records top bottom drawing D) ++ drop 1024 old) old
+    go zero =
+        ap (λ (xs : List NetRecord). flat xs ++ drop 1024 old) (take-all 256 (records top bottom drawing D) (omega (arith, records-long top bottom drawing D)))
+    go (suc k) = refl

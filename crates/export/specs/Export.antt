@@ -17,8 +17,7 @@ use Rattle.checker.specs.Check.{numberOf as faultNumber}
 use Rattle.report.specs.declared.NetRecord.{NetRecord}
 use Rattle.report.specs.declared.Drawing.{Drawing}
 use Rattle.report.specs.declared.Reported.{Reported}
-use Rattle.report.specs.Report.{records, refused}
-use Rattle.report.specs.Report.{faultOf as told}
+use Rattle.report.specs.Report.{records, refused, faultOf}
 use Rattle.export.specs.declared.DensityResult.{DensityResult}
 use Rattle.export.specs.declared.NeedResult.{NeedResult}
 use Rattle.export.specs.declared.RouteResult.{RouteResult}
@@ -42,8 +41,8 @@ routeOf a =
     record { number = numberOf a; density = figuresOf a .density; tracks = figuresOf a .tracks; width = figuresOf a .width }
 
 -- the checker's number, place, column and row
-abbrev pub faultOf : Checked → CheckResult
-faultOf a = record { number = faultNumber a; place = placeOf a; column = faultColumn a; row = faultRow a }
+abbrev pub checkedOf : Checked → CheckResult
+checkedOf a = record { number = faultNumber a; place = placeOf a; column = faultColumn a; row = faultRow a }
 
 -- the listing's number and the bytes of its text
 abbrev pub listOf : Listed → ListResult
@@ -55,7 +54,7 @@ toldBy f = record { number = f .number; place = f .place; column = f .column; ro
 
 -- the net report's number, and the place, column and row of the checker's own refusal
 abbrev pub reportOf : Reported → CheckResult
-reportOf a = toldBy (told a)
+reportOf a = toldBy (faultOf a)
 
 -- "one per number 1 to 256: first column, last column, pin count", and the length: a table of net records as numbers, four for each record
 unfoldable pub flat : List NetRecord → List ℕ

@@ -8,19 +8,17 @@ use router::Length;
 use router::Routed;
 ghost use mathlib.Core.Path.{_≡_};
 ghost use mathlib.Core.List.{[], _++_};
-ghost use Prim.Native.Nat.{_/_, _≤_, _<_};
-ghost use lib.ListN.{length, drop};
+ghost use Prim.Native.Nat.{_+_, _*_, _/_, _≤_, _<_};
+ghost use lib.ListN.{length, take, drop};
 ghost use Rattle.grid.specs.Answers.{densityCount};
 ghost use Rattle.grid.specs.View.{columnPart};
 ghost use Rattle.router.specs.Answers.{need, answer, written};
 ghost use Rattle.checker.specs.Check.{checked};
-ghost use Rattle.export.specs.Export.{densityOf, needOf, routeOf, faultOf, listOf, reportOf, flat, figuresAfter};
+ghost use Rattle.export.specs.Export.{densityOf, needOf, routeOf, checkedOf, listOf, reportOf, flat, figuresAfter};
 ghost use Rattle.export.specs.Working.{netPut};
 ghost use Rattle.report.specs.declared.Drawing.the-variants.{Absent, Given};
-ghost use Rattle.report.specs.Report.{refused, reported, faultOf as told};
-ghost use Rattle.report.specs.Working.{numbered};
-ghost use Rattle.grid.specs.Channel.{rowsRefused};
-ghost use Rattle.grid.specs.Refusals.{firstRefusal, ifAccepted};
+ghost use Rattle.report.specs.Report.{refused, reported, faultOf};
+ghost use Rattle.grid.specs.Refusals.{ifAccepted};
 ghost use Rattle.record.specs.Record.{laid};
 ghost use Rattle.listing.specs.Listing.{listed, refused as listRefused, textOf};
 
@@ -126,7 +124,7 @@ pub extern "C" fn gaxwethi_check(
     t: usize,
     layout: &[u16],
 ) -> CheckResult
-    ensures { λ r. ⌜ r ≡ faultOf (checked (now (top .entry)) (now (bottom .entry)) w t (now (layout .entry))) ⌝ }
+    ensures { λ r. ⌜ r ≡ checkedOf (checked (now (top .entry)) (now (bottom .entry)) w t (now (layout .entry))) ⌝ }
 {
     let a = checker::check(top, bottom, w, t, layout);
     CheckResult {
@@ -145,48 +143,27 @@ pub extern "C" fn gaxwethi_column(len: usize, w: usize, t: usize, c: usize) -> P
     grid::column_part(len, w, t, c)
 }
 
-// A number of a record, wide enough for a length.
-fn wide(x: u16) -> u32
-    ensures { λ r. ⌜ r ≡ x ⌝ }
-{
-    x as u32
-}
-
 // Writes the four numbers of a record, number k from 0.
 fn put_net(figures: &mut [u32], net: NetRecord, k: usize)
-    requires { ⌜ (k < 256) × (1024 ≤ length (now figures)) ⌝ }
+    requires { ⌜ (k < 256) × (4 * k + 4 ≤ length (now figures)) ⌝ }
     ensures { λ _. ⌜ now (figures .exit) ≡ netPut net k (now (figures .entry)) ⌝ }
 {
     let at = 4 * k;
-    figures[at] = wide(net.first);
-    figures[at + 1] = wide(net.last);
-    figures[at + 2] = wide(net.pins);
+    figures[at] = net.first;
+    figures[at + 1] = net.last;
+    figures[at + 2] = net.pins;
     figures[at + 3] = net.length;
 }
 
-// Writes the numbers of 256 records.
-fn put_nets(figures: &mut [u32], nets: [NetRecord; 256])
-    requires { ⌜ 1024 ≤ length (now figures) ⌝ }
-    ensures { λ _. ⌜ now (figures .exit) ≡ flat nets ++ drop 1024 (now (figures .entry)) ⌝ }
+// Writes the numbers of the first `count` of 256 records.
+fn put_nets(figures: &mut [u32], nets: [NetRecord; 256], count: usize)
+    requires { ⌜ (count ≤ 256) × (4 * count ≤ length (now figures)) ⌝ }
+    ensures { λ _. ⌜ now (figures .exit) ≡ flat (take count nets) ++ drop (4 * count) (now (figures .entry)) ⌝ }
 {
     let mut k = 0;
-    while k < 256 {
+    while k < count {
         put_net(figures, nets[k], k);
         k += 1;
-    }
-}
-
-// The refusal for a table that is too short: the rows', else 9.
-fn short_table(top: &[u16], bottom: &[u16]) -> Fault
-    ensures { λ f. ⌜ f ≡ numbered (firstRefusal (rowsRefused (now (top .entry)) (now (bottom .entry)) 256) 9) ⌝ }
-{
-    let rows = grid::check_rows(top, bottom, 256);
-    let k = grid::number_of(rows);
-    Fault {
-        number: if k == 0 { 9 } else { k },
-        place: 0,
-        column: 0,
-        row: 0,
     }
 }
 
@@ -199,21 +176,15 @@ fn report_numbers(
     figures: &mut [u32],
 ) -> Fault
     ensures answer { λ f. ⌜ f
-        ≡ told (reported (now (top .entry)) (now (bottom .entry)) drawing (now (layout .entry)) (length (now (figures .entry)) / 4)) ⌝ }
+        ≡ faultOf (reported (now (top .entry)) (now (bottom .entry)) drawing (now (layout .entry)) (length (now (figures .entry)) / 4)) ⌝ }
     ensures figures { λ f. ⌜ now (figures .exit)
         ≡ figuresAfter (now (top .entry)) (now (bottom .entry)) drawing (now (layout .entry)) (now (figures .entry)) ⌝ }
 {
-    if figures.len() < 1024 {
-        return short_table(top, bottom);
-    }
-    let reply = report::table_of(top, bottom, drawing, layout);
-    let answer = reply.answer;
-    let fault = report::fault_of(answer);
-    if fault.number == 0 {
-        let nets = reply.table;
-        put_nets(figures, nets);
-    }
-    fault
+    let c = report::collect(top, bottom, drawing, layout, figures.len() / 4);
+    let nets = c.records;
+    put_nets(figures, nets, c.count);
+    let answer = c.answer;
+    report::fault_of(answer)
 }
 
 // The net report without a drawing: the lengths are 0.

@@ -28,7 +28,12 @@ pub first-past : (k m : ℕ) → firstRefusal k m ≡ 0 → (k ≡ 0) × (m ≡ 
 first-past zero m e = (refl, e)
 first-past (suc k) m e = absurd (omega arith)
 
--- and that of the place where none comes after it
+-- that of the place where one applies
+pub first-here : (k m : ℕ) → k ≢ 0 → firstRefusal k m ≡ k
+first-here zero m n = absurd (n refl)
+first-here (suc k) m n = refl
+
+-- and where none comes after it
 pub no-later : (k : ℕ) → firstRefusal k 0 ≡ k
 no-later zero = refl
 no-later (suc k) = refl

@@ -13,36 +13,36 @@ use Rattle.grid.specs.Refusals.{firstRefusal, ifAccepted}
 use Rattle.grid.specs.declared.RowCheck.{RowCheck}
 use Rattle.grid.specs.declared.RowCheck.the-variants as rows
 use Rattle.grid.specs.Answers.{rowCheck, numberOf as rowNumber}
-use Rattle.grid.proofs.Answers.{check-number, accepted-old, first-past, refused as row-refused}
+use Rattle.grid.proofs.Answers.{first-past, first-here, check-number, accepted-old, refused as row-refused}
 use Rattle.grid.proofs.Tests.{Below, above, belowBy, lt-ltb, le-ltb}
 use Rattle.checker.specs.declared.Fault.{Fault}
 use Rattle.checker.specs.declared.Checked.{Checked}
-use Rattle.checker.specs.Check.{numberOf, placeOf, faultColumn, faultRow, place, column, row, drawingRefused}
+use Rattle.checker.specs.Check.{numberOf, placeOf, faultColumn, faultRow, drawingRefused, checked}
 use Rattle.checker.specs.Check as checking
-use Rattle.checker.proofs.Answers.{no-place-else, no-point-else, rows-low}
+use Rattle.checker.proofs.Answers.{no-place-else, no-point-else, check-parts, rows-low}
 use Rattle.report.specs.declared.NetRecord.{NetRecord}
 use Rattle.report.specs.declared.Drawing.{Drawing}
 use Rattle.report.specs.declared.Drawing.the-variants.{Absent, Given}
 use Rattle.report.specs.declared.Collected.{Collected}
 use Rattle.report.specs.declared.Reported.the-variants.{Filled, Refused}
 use Rattle.report.specs.Report as reporting
-use Rattle.report.specs.Report.{faultOf, answerOf, drawingNumber, faultWith, records, refused, reported, tableAfter}
-use Rattle.report.specs.Working.{numbered, refusedWith, Writes}
+use Rattle.report.specs.Report.{blankTable, faultOf, answerOf, drawingNumber, faultWith, records, refused, reported, collected, tableAfter}
+use Rattle.report.specs.Working.{numberOnly, refusedWith}
 use Rattle.report.proofs.Records.{records-long}
 
 -- WHAT IS TOLD OF A NUMBER
 
 module _ (top bottom : List ℕ) (drawing : Drawing) (D : List ℕ) where
   -- below 13 the number alone
-  pub fault-low : (k : ℕ) → k < 13 → numbered k ≡ faultWith top bottom drawing D k
+  fault-low : (k : ℕ) → k < 13 → numberOnly k ≡ faultWith top bottom drawing D k
   fault-low k h = go drawing
     where
-      go : (d : Drawing) → numbered k ≡ faultWith top bottom d D k
+      go : (d : Drawing) → numberOnly k ≡ faultWith top bottom d D k
       go Absent = refl
       go (Given w t) = let (c, r) = no-point-else top bottom w t D k (omega arith) in rw (no-place-else top bottom w t D k (inl h), c, r) refl
 
   -- it has the number
-  pub fault-number : (k : ℕ) → faultWith top bottom drawing D k .number ≡ k
+  fault-number : (k : ℕ) → faultWith top bottom drawing D k .number ≡ k
   fault-number k = go drawing
     where
       go : (d : Drawing) → faultWith top bottom d D k .number ≡ k
@@ -62,14 +62,18 @@ module _ (top bottom : List ℕ) (drawing : Drawing) (D : List ℕ) where
   pub number : (size : ℕ) → reporting.numberOf (reported top bottom drawing D size) ≡ refused top bottom drawing D size
   number size = ap (λ (f : Fault). f .number) (fault-of-reported size) ∙ fault-number (refused top bottom drawing D size)
 
--- the checker's answer for a drawing of accepted rows
-pub checker-fault : (top bottom : List ℕ) (w t : ℕ) (D : List ℕ) (c : Checked) → rowsRefused top bottom 256 ≡ 0 → numberOf c ≡ checking.refused top bottom w t D
-    → placeOf c ≡ place top bottom w t D (numberOf c) → faultColumn c ≡ column top bottom w t D (numberOf c) → faultRow c ≡ row top bottom w t D (numberOf c)
-    → record { number = numberOf c; place = placeOf c; column = faultColumn c; row = faultRow c } ≡ faultWith top bottom (Given w t) D (drawingRefused top bottom w t D)
+-- THE CHECKER'S ANSWER for a drawing of accepted rows
+
+-- its number, place, column and row
+abbrev pub told : Checked → Fault
+told c = record { number = numberOf c; place = placeOf c; column = faultColumn c; row = faultRow c }
+
+pub checker-fault : (top bottom : List ℕ) (w t : ℕ) (D : List ℕ) (c : Checked) → rowsRefused top bottom 256 ≡ 0 → c ≡ checked top bottom w t D
+    → told c ≡ faultWith top bottom (Given w t) D (drawingRefused top bottom w t D)
 unfolding checking.refused
-checker-fault top bottom w t D c z n p x y =
-    let e : numberOf c ≡ drawingRefused top bottom w t D = n ∙ ap (λ (m : ℕ). firstRefusal m (drawingRefused top bottom w t D)) z in
-    rw (p, x, y, e) refl
+checker-fault top bottom w t D c z e =
+    let (n, p, x, y) = check-parts top bottom w t D in
+    ap told e ∙ rw (p, x, y, n) (ap (λ (k : ℕ). faultWith top bottom (Given w t) D (firstRefusal k (drawingRefused top bottom w t D))) z)
 
 -- NUMBERS
 
@@ -77,37 +81,30 @@ module _ (top bottom : List ℕ) (drawing : Drawing) (D : List ℕ) (size : ℕ)
   -- the rows' refusal comes first
   by-rows : rowsRefused top bottom 256 ≢ 0 → rowsRefused top bottom 256 ≡ refused top bottom drawing D size
   unfolding refused
-  by-rows n = go (rowsRefused top bottom 256) n
-    where
-      go : (k : ℕ) → k ≢ 0 → k ≡ firstRefusal k (firstRefusal (pick (ltb size 256) 9 0) (drawingNumber top bottom drawing D))
-      go zero m = absurd (m refl)
-      go (suc k) m = refl
+  by-rows n = sym (first-here (rowsRefused top bottom 256) _ n)
 
   -- for a table that is too short 9 comes after them, and no drawing is looked at
-  pub by-short : size < 256 → firstRefusal (rowsRefused top bottom 256) 9 ≡ refused top bottom drawing D size
+  by-short : size < 256 → firstRefusal (rowsRefused top bottom 256) 9 ≡ refused top bottom drawing D size
   unfolding refused
   by-short h = rw (lt-ltb size 256 h) refl
 
   -- for a longer one the drawing's comes after them
-  pub by-long : 256 ≤ size → firstRefusal (rowsRefused top bottom 256) (drawingNumber top bottom drawing D) ≡ refused top bottom drawing D size
+  by-long : 256 ≤ size → firstRefusal (rowsRefused top bottom 256) (drawingNumber top bottom drawing D) ≡ refused top bottom drawing D size
   unfolding refused
   by-long h = rw (le-ltb size 256 h) refl
 
   -- the number alone is told of the first
-  short-number : (firstRefusal (rowsRefused top bottom 256) 9 ≢ 0) × (firstRefusal (rowsRefused top bottom 256) 9 < 13)
+  short-number : firstRefusal (rowsRefused top bottom 256) 9 < 13
   short-number = go (rowsRefused top bottom 256) (rows-low top bottom 256)
     where
-      go : (k : ℕ) → k ≤ 7 → (firstRefusal k 9 ≢ 0) × (firstRefusal k 9 < 13)
-      go zero l = ((λ z. absurd (omega arith)), omega arith)
-      go (suc k) l = ((λ z. absurd (omega arith)), omega arith)
+      go : (k : ℕ) → k ≤ 7 → firstRefusal k 9 < 13
+      go zero l = omega arith
+      go (suc k) l = omega arith
 
-  pub short-refused : size < 256 → refused top bottom drawing D size ≢ 0
-  short-refused h z = short-number .0 (by-short h ∙ z)
-
-  pub short-fault : size < 256 → faultOf (reported top bottom drawing D size) ≡ numbered (firstRefusal (rowsRefused top bottom 256) 9)
+  pub short-fault : size < 256 → faultOf (reported top bottom drawing D size) ≡ numberOnly (firstRefusal (rowsRefused top bottom 256) 9)
   short-fault h =
       fault-of-reported top bottom drawing D size ∙ ap (faultWith top bottom drawing D) (sym (by-short h))
-      ∙ sym (fault-low top bottom drawing D (firstRefusal (rowsRefused top bottom 256) 9) (short-number .1))
+      ∙ sym (fault-low top bottom drawing D (firstRefusal (rowsRefused top bottom 256) 9) short-number)
 
   -- with accepted rows
   by-table : rowsRefused top bottom 256 ≡ 0 → size < 256 → 9 ≡ refused top bottom drawing D size
@@ -117,9 +114,9 @@ module _ (top bottom : List ℕ) (drawing : Drawing) (D : List ℕ) (size : ℕ)
   by-drawing e h = ap (λ (k : ℕ). firstRefusal k (drawingNumber top bottom drawing D)) (sym e) ∙ by-long h
 
   -- an accepted call: rows, a table of 256 records and a drawing that are not refused
-  pub let-through : refused top bottom drawing D size ≡ 0 → (rowsRefused top bottom 256 ≡ 0) × (256 ≤ size) × (drawingNumber top bottom drawing D ≡ 0)
+  pub accepted-report : refused top bottom drawing D size ≡ 0 → (rowsRefused top bottom 256 ≡ 0) × (256 ≤ size) × (drawingNumber top bottom drawing D ≡ 0)
   unfolding refused
-  let-through e =
+  accepted-report e =
       let (a, b) = first-past (rowsRefused top bottom 256) (firstRefusal (pick (ltb size 256) 9 0) (drawingNumber top bottom drawing D)) e in
       let (c, d) = first-past (pick (ltb size 256) 9 0) (drawingNumber top bottom drawing D) b in
       (a, go (ltb size 256) (belowBy size 256) c, d)
@@ -148,38 +145,37 @@ module _ (top bottom : List ℕ) (drawing : Drawing) (D : List ℕ) (table : Lis
   unfolding tableAfter
   table-filled z = ap (λ (j : ℕ). ifAccepted j (records top bottom drawing D ++ drop 256 table) table) z
 
--- THE WAYS OUT OF `collect`
+-- WHAT IS COLLECTED
 
 module _ (top bottom : List ℕ) (drawing : Drawing) (D : List ℕ) (size : ℕ) where
-  -- what it promises
-  abbrev pub Collects : Collected → Type 0
-  Collects c = (c .answer ≡ reported top bottom drawing D size) × Writes top bottom drawing D size (c .count) (c .records)
+  -- by the number
+  abbrev collected-by : ℕ → Collected
+  collected-by k =
+      record { answer = answerOf k (faultWith top bottom drawing D k); count = ifAccepted k 256 0; records = ifAccepted k (records top bottom drawing D) blankTable }
+
+  collects : (k : ℕ) → k ≡ refused top bottom drawing D size → collected-by k ≡ collected top bottom drawing D size
+  unfolding collected reported
+  collects k e = ap collected-by e
 
   -- a refusal with its number and what is told of it
-  refuses : (k : ℕ) (f : Fault) (c : Collected) → k ≢ 0 → k ≡ refused top bottom drawing D size → f ≡ faultWith top bottom drawing D k → c ≡ refusedWith f → Collects c
-  unfolding reported
-  refuses k f c n e g h = subst Collects (sym h) (
-    answers k n g ∙ ap (λ (j : ℕ). answerOf j (faultWith top bottom drawing D j)) e,
-    record { few = omega arith; fits = omega arith; leaves = λ table l. sym (table-of-refusal top bottom drawing D table (λ z. n (e ∙ ap (refused top bottom drawing D) (sym l) ∙ z))) },
-  )
-    where
-      answers : (j : ℕ) → j ≢ 0 → f ≡ faultWith top bottom drawing D j → Refused f ≡ answerOf j (faultWith top bottom drawing D j)
-      answers zero m i = absurd (m refl)
-      answers (suc j) m i = ap Refused i
+  refuses : (k : ℕ) (f : Fault) → k ≢ 0 → k ≡ refused top bottom drawing D size → f ≡ faultWith top bottom drawing D k
+      → refusedWith f ≡ collected top bottom drawing D size
+  refuses zero f n e g = absurd (n refl)
+  refuses (suc k) f n e g = ap refusedWith g ∙ collects (suc k) e
 
   -- of the rows, where the row check answers `Refused`
-  pub refuses-rows : (r : RowCheck) (j k : ℕ) (c : Collected) → r ≡ rowCheck top bottom 256 → r ≡ rows.Refused j → k ≡ rowNumber r → c ≡ refusedWith (numbered k) → Collects c
-  refuses-rows r j k c e f g h =
+  pub refuses-rows : (r : RowCheck) (j k : ℕ) → r ≡ rowCheck top bottom 256 → r ≡ rows.Refused j → k ≡ rowNumber r → refusedWith (numberOnly k) ≡ collected top bottom drawing D size
+  refuses-rows r j k e f g =
       let i : k ≡ rowsRefused top bottom 256 = g ∙ ap rowNumber e ∙ check-number top bottom 256 in
       let n = row-refused top bottom 256 r j e f in
-      refuses k (numbered k) c (λ z. n (sym i ∙ z)) (i ∙ by-rows top bottom drawing D size n)
-      (fault-low top bottom drawing D k (omega (arith, i, rows-low top bottom 256))) h
+      refuses k (numberOnly k) (λ z. n (sym i ∙ z)) (i ∙ by-rows top bottom drawing D size n)
+      (fault-low top bottom drawing D k (omega (arith, i, rows-low top bottom 256)))
 
   module _ (e : rowsRefused top bottom 256 ≡ 0) where
     -- of the table
-    pub refuses-table : (c : Collected) → size < 256 → c ≡ refusedWith (numbered 9) → Collects c
-    refuses-table c l h =
-        refuses 9 (numbered 9) c (λ z. absurd (omega arith)) (by-table top bottom drawing D size e l) (fault-low top bottom drawing D 9 (omega arith)) h
+    pub refuses-table : size < 256 → refusedWith (numberOnly 9) ≡ collected top bottom drawing D size
+    refuses-table l =
+        refuses 9 (numberOnly 9) (λ z. absurd (omega arith)) (by-table top bottom drawing D size e l) (fault-low top bottom drawing D 9 (omega arith))
 
     module _ (l : 256 ≤ size) (f : Fault) (is : f ≡ faultWith top bottom drawing D (drawingNumber top bottom drawing D)) where
       -- the fault's number
@@ -187,22 +183,48 @@ module _ (top bottom : List ℕ) (drawing : Drawing) (D : List ℕ) (size : ℕ)
       told-number = ap (λ (g : Fault). g .number) is ∙ fault-number top bottom drawing D (drawingNumber top bottom drawing D)
 
       -- of the drawing
-      pub refuses-drawing : (c : Collected) → f .number ≢ 0 → c ≡ refusedWith f → Collects c
-      refuses-drawing c n h =
-          refuses (drawingNumber top bottom drawing D) f c (λ z. n (told-number ∙ z)) (by-drawing top bottom drawing D size e l) is h
+      pub refuses-drawing : f .number ≢ 0 → refusedWith f ≡ collected top bottom drawing D size
+      refuses-drawing n =
+          refuses (drawingNumber top bottom drawing D) f (λ z. n (told-number ∙ z)) (by-drawing top bottom drawing D size e l) is
 
       -- no refusal
-      pub fills : f .number ≡ 0 → (nets : List NetRecord) → nets ≡ records top bottom drawing D → Collects (record { answer = Filled; count = 256; records = nets })
-      unfolding reported
+      pub fills : f .number ≡ 0 → (nets : List NetRecord) → nets ≡ records top bottom drawing D
+          → record { answer = Filled; count = 256; records = nets } ≡ collected top bottom drawing D size
       fills z nets h =
-          let n : 0 ≡ refused top bottom drawing D size = sym z ∙ told-number ∙ by-drawing top bottom drawing D size e l in (
-            ap (λ (j : ℕ). answerOf j (faultWith top bottom drawing D j)) n,
-            record {
-              few = omega arith;
-              fits = l;
-              leaves = λ table i.
-                  ap (λ (xs : List NetRecord). take 256 xs ++ drop 256 table) h
-                  ∙ ap (λ (xs : List NetRecord). xs ++ drop 256 table) (take-all 256 (records top bottom drawing D) (omega (arith, records-long top bottom drawing D)))
-                  ∙ sym (table-filled top bottom drawing D table (ap (refused top bottom drawing D) i ∙ sym n));
-            },
-          )
+          ap (λ (xs : List NetRecord). record { answer = Filled; count = 256; records = xs }) h
+          ∙ collects 0 (sym z ∙ told-number ∙ by-drawing top bottom drawing D size e l)
+
+-- what is written leaves the table that the call leaves
+pub record Writes (top bottom : List ℕ) (drawing : Drawing) (D : List ℕ) (size : ℕ) (c : Collected) : Type 0 where
+  pub answers : c .answer ≡ reported top bottom drawing D size
+  pub few : c .count ≤ 256
+  pub fits : c .count ≤ size
+  pub leaves : (table : List NetRecord) → length table ≡ size → take (c .count) (c .records) ++ drop (c .count) table ≡ tableAfter top bottom drawing D table
+
+pub writes : (top bottom : List ℕ) (drawing : Drawing) (D : List ℕ) (size : ℕ) (c : Collected) → c ≡ collected top bottom drawing D size → Writes top bottom drawing D size c
+unfolding reported
+writes top bottom drawing D size c e =
+    subst (Writes top bottom drawing D size) (sym (e ∙ sym (collects top bottom drawing D size (refused top bottom drawing D size) refl)))
+    (go (refused top bottom drawing D size) refl)
+  where
+    answered : (k : ℕ) → k ≡ refused top bottom drawing D size → answerOf k (faultWith top bottom drawing D k) ≡ reported top bottom drawing D size
+    answered k e = ap (λ (j : ℕ). answerOf j (faultWith top bottom drawing D j)) e
+
+    same-size : (table : List NetRecord) (k : ℕ) → length table ≡ size → k ≡ refused top bottom drawing D size → refused top bottom drawing D (length table) ≡ k
+    same-size table k l e = ap (refused top bottom drawing D) l ∙ sym e
+
+    go : (k : ℕ) → k ≡ refused top bottom drawing D size → Writes top bottom drawing D size (collected-by top bottom drawing D size k)
+    go zero e = record {
+      answers = answered 0 e;
+      few = omega arith;
+      fits = accepted-report top bottom drawing D size (sym e) .1;
+      leaves = λ table l.
+          ap (λ (xs : List NetRecord). xs ++ drop 256 table) (take-all 256 (records top bottom drawing D) (omega (arith, records-long top bottom drawing D)))
+          ∙ sym (table-filled top bottom drawing D table (same-size table 0 l e));
+    }
+    go (suc k) e = record {
+      answers = answered (suc k) e;
+      few = omega arith;
+      fits = omega arith;
+      leaves = λ table l. sym (table-of-refusal top bottom drawing D table (λ z. absurd (omega (arith, same-size table (suc k) l e, z))));
+    }

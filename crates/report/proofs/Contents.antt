@@ -22,7 +22,7 @@ use Rattle.report.specs.Length.{edgesDrawn}
 use Rattle.report.specs.Report.{upTo, lengthIn, drawingNumber, recordOf, records, refused, tableAfter}
 use Rattle.report.proofs.Records.{zeroRecord, length-upTo, records-long}
 use Rattle.report.proofs.WireLengths.{lengths-add-up, passed-countable, no-net-no-length}
-use Rattle.report.proofs.Answers.{let-through, table-filled, table-of-refusal}
+use Rattle.report.proofs.Answers.{accepted-report, table-filled, table-of-refusal}
 
 -- the record of net k + 1 among those of the nets 1 to m
 upTo-at : (f : ℕ → NetRecord) (m k : ℕ) (d : NetRecord) → k < m → getD (upTo f m) k d ≡ f (suc k)
@@ -71,7 +71,7 @@ records-sum top bottom drawing D table d f z =
 pub table-lengths : (top bottom : List ℕ) (w t : ℕ) (D : List ℕ) (table : List NetRecord) (d : NetRecord) → refused top bottom (Given w t) D (length table) ≡ 0
     → sum (λ v. getD (tableAfter top bottom (Given w t) D table) (v - 1) d .length) 256 ≡ edgesDrawn D
 table-lengths top bottom w t D table d z =
-    let (r, l, p) = let-through top bottom (Given w t) D (length table) z in
+    let (r, l, p) = accepted-report top bottom (Given w t) D (length table) z in
     let (s, few, o) = passed-countable top bottom w t D r p in
     records-sum top bottom (Given w t) D table d (λ r. r .length) z ∙ lengths-add-up w t D s o
 

@@ -72,11 +72,6 @@ pub blank-long : length blankTable ≡ 256
 unfolding blankTable
 blank-long = refl
 
--- and none behind them
-pub blank-behind : drop 256 blankTable ≡ []
-unfolding blankTable
-blank-behind = refl
-
 -- the records of the nets 1 to k in front of a table of zeros, and one more
 pub stored : (f : ℕ → NetRecord) (out : List NetRecord) (k : ℕ) (r : NetRecord) → k < 256 → out ≡ upTo f k ++ drop k blankTable → r ≡ f (k + 1)
     → set out k r ≡ upTo f (k + 1) ++ drop (k + 1) blankTable

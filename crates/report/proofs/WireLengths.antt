@@ -26,36 +26,36 @@ use Rattle.report.specs.declared.Drawing.the-variants.{Absent, Given}
 use Rattle.report.specs.declared.Drawing.{Drawing}
 use Rattle.report.specs.Report.{lengthIn, drawingNumber}
 use Rattle.report.specs.Working.{Countable}
-use Rattle.report.specs.Length.{entriesOf, edgesIn, edgesTo, wireLength, edgesDrawn}
+use Rattle.report.specs.Length.{entriesWith, edgesIn, edgesTo, wireLength, edgesDrawn}
 
 -- COUNTED ENTRIES
 
 -- counts over equally many entries are equal
-entries-to : (f : ℕ → ℕ) (N k n : ℕ) → k ≡ n → entriesOf f N k ≡ entriesOf f N n
-entries-to f N k n e = ap (entriesOf f N) e
+entries-to : (f : ℕ → ℕ) (N k n : ℕ) → k ≡ n → entriesWith f N k ≡ entriesWith f N n
+entries-to f N k n e = ap (entriesWith f N) e
 
 -- those from a on are counted after the first a
-entries-cut : (f : ℕ → ℕ) (N a b : ℕ) → entriesOf f N (a + b) ≡ entriesOf f N a + entriesOf (λ i. f (a + i)) N b
-unfolding entriesOf
+entries-cut : (f : ℕ → ℕ) (N a b : ℕ) → entriesWith f N (a + b) ≡ entriesWith f N a + entriesWith (λ i. f (a + i)) N b
+unfolding entriesWith
 entries-cut f N a zero = omega (arith, entries-to f N (a + 0) a (omega arith))
 entries-cut f N a (suc b) = omega (arith, entries-to f N (a + suc b) (suc (a + b)) (omega arith), entries-cut f N a b)
 
 -- the first is counted before the others
-entries-first : (f : ℕ → ℕ) (N k : ℕ) → entriesOf f N (suc k) ≡ bit (eqb (f 0) N) + entriesOf (λ i. f (suc i)) N k
-unfolding entriesOf
+entries-first : (f : ℕ → ℕ) (N k : ℕ) → entriesWith f N (suc k) ≡ bit (eqb (f 0) N) + entriesWith (λ i. f (suc i)) N k
+unfolding entriesWith
 entries-first f N zero = omega arith
 entries-first f N (suc k) = omega (arith, entries-first f N k)
 
 -- equal entries give equal counts
-entries-same : (f g : ℕ → ℕ) (N k : ℕ) → ((i : ℕ) → i < k → f i ≡ g i) → entriesOf f N k ≡ entriesOf g N k
-unfolding entriesOf
+entries-same : (f g : ℕ → ℕ) (N k : ℕ) → ((i : ℕ) → i < k → f i ≡ g i) → entriesWith f N k ≡ entriesWith g N k
+unfolding entriesWith
 entries-same f g N zero h = refl
 entries-same f g N (suc k) h =
     ap₂ _+_ (entries-same f g N k (λ i l. h i (omega arith))) (ap (λ (n : ℕ). bit (eqb n N)) (h k (omega arith)))
 
 -- over a whole list they are how often N stands in it
-entries-times : (D : List ℕ) (N : ℕ) → entriesOf (λ i. getD D i 0) N (length D) ≡ times N D
-unfolding entriesOf times
+entries-times : (D : List ℕ) (N : ℕ) → entriesWith (λ i. getD D i 0) N (length D) ≡ times N D
+unfolding entriesWith times
 entries-times [] N = refl
 entries-times (x ∷ xs) N = entries-first (λ i. getD (x ∷ xs) i 0) N (length xs) ∙ ap (λ (n : ℕ). bit (eqb x N) + n) (entries-times xs N)
 
@@ -63,7 +63,7 @@ entries-times (x ∷ xs) N = entries-first (λ i. getD (x ∷ xs) i 0) N (length
 
 module _ (D : List ℕ) (t N : ℕ) where
   -- the edges in column x are counted among its 2t + 1 entries
-  edges-in : (x : ℕ) → edgesIn D t N x ≡ entriesOf (λ i. getD D (x * (2 * t + 1) + i) 0) N (2 * t + 1)
+  edges-in : (x : ℕ) → edgesIn D t N x ≡ entriesWith (λ i. getD D (x * (2 * t + 1) + i) 0) N (2 * t + 1)
   unfolding edgesIn
   edges-in x =
       let f : ℕ → ℕ = λ i. getD D (x * (2 * t + 1) + i) 0 in
@@ -74,8 +74,8 @@ module _ (D : List ℕ) (t N : ℕ) where
       ∙ sym (entries-cut f N (t + 1) t) ∙ entries-to f N (t + 1 + t) (2 * t + 1) (omega arith)
 
   -- those in the first k columns among the entries of these
-  edges-to : (k : ℕ) → edgesTo D t N k ≡ entriesOf (λ i. getD D i 0) N (k * (2 * t + 1))
-  unfolding edgesTo entriesOf
+  edges-to : (k : ℕ) → edgesTo D t N k ≡ entriesWith (λ i. getD D i 0) N (k * (2 * t + 1))
+  unfolding edgesTo entriesWith
   edges-to zero = entries-to (λ i. getD D i 0) N 0 (0 * (2 * t + 1)) (omega arith)
   edges-to (suc k) =
       ap₂ _+_ (edges-to k) (edges-in k)
@@ -83,7 +83,7 @@ module _ (D : List ℕ) (t N : ℕ) where
       ∙ entries-to (λ i. getD D i 0) N (k * (2 * t + 1) + (2 * t + 1)) (suc k * (2 * t + 1)) (omega arith)
 
 -- the length of a net is how often its number stands among the entries
-pub wire-times : (w t : ℕ) (D : List ℕ) (N : ℕ) → length D ≡ w * (2 * t + 1) → wireLength w t D N ≡ times N D
+wire-times : (w t : ℕ) (D : List ℕ) (N : ℕ) → length D ≡ w * (2 * t + 1) → wireLength w t D N ≡ times N D
 unfolding wireLength
 wire-times w t D N s = edges-to D t N w ∙ entries-to (λ i. getD D i 0) N (w * (2 * t + 1)) (length D) (sym s) ∙ entries-times D N
 
@@ -109,7 +109,7 @@ among x h = go (eqb x 0) (sameBy x 0)
     go false (diff n) = sum-one x 256 n h
 
 -- each entry that is not 0 is counted for one of the numbers 1 to 256
-pub times-add-up : (D : List ℕ) → over D ≡ false → sum (λ v. times v D) 256 ≡ edgesDrawn D
+times-add-up : (D : List ℕ) → over D ≡ false → sum (λ v. times v D) 256 ≡ edgesDrawn D
 unfolding over times edgesDrawn
 times-add-up [] e = sum-zero (λ v. 0) 256 (λ v p. refl)
 times-add-up (x ∷ xs) e =

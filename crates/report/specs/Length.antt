@@ -8,13 +8,13 @@ use Rattle.grid.specs.Channel.{bit}
 use Rattle.grid.specs.Grid.{verticalOf, horizontalOf}
 
 -- how many of the entries f 0 to f (k - 1) are N
-unfoldable pub entriesOf : (f : ℕ → ℕ) (N k : ℕ) → ℕ
-entriesOf f N zero = 0
-entriesOf f N (suc k) = entriesOf f N k + bit (eqb (f k) N)
+unfoldable pub entriesWith : (f : ℕ → ℕ) (N k : ℕ) → ℕ
+entriesWith f N zero = 0
+entriesWith f N (suc k) = entriesWith f N k + bit (eqb (f k) N)
 
 -- the edges of net N in column x: the vertical ones, "for y from 0 to t", and the horizontal ones, that leave it on the tracks 1 to t
 unfoldable pub edgesIn : (D : List ℕ) (t N x : ℕ) → ℕ
-edgesIn D t N x = entriesOf (verticalOf D t x) N (t + 1) + entriesOf (horizontalOf D t x) N t
+edgesIn D t N x = entriesWith (verticalOf D t x) N (t + 1) + entriesWith (horizontalOf D t x) N t
 
 -- those in the first k columns
 unfoldable pub edgesTo : (D : List ℕ) (t N k : ℕ) → ℕ

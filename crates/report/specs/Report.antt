@@ -14,6 +14,7 @@ use Rattle.report.specs.declared.NetRecord.{NetRecord}
 use Rattle.report.specs.declared.Drawing.{Drawing}
 use Rattle.report.specs.declared.Drawing.the-variants.{Absent, Given}
 use Rattle.report.specs.declared.Reported.{Reported}
+use Rattle.report.specs.declared.Collected.{Collected}
 use Rattle.report.specs.declared.Reported.the-variants.{Filled, Refused}
 use Rattle.report.specs.Length.{wireLength}
 
@@ -74,6 +75,11 @@ module _ (top bottom : List ℕ) (drawing : Drawing) (D : List ℕ) where
   -- the answer for a table of so many records
   unfoldable pub reported : (size : ℕ) → Reported
   reported size = answerOf (refused size) (faultWith top bottom drawing D (refused size))
+
+  -- the answer and what is written: all records on acceptance, none on refusal
+  unfoldable pub collected : (size : ℕ) → Collected
+  collected size =
+      record { answer = reported size; count = ifAccepted (refused size) 256 0; records = ifAccepted (refused size) records blankTable }
 
   -- the contents of the table after the call: "A refused call writes to no lent slice or table"
   unfoldable pub tableAfter : List NetRecord → List NetRecord

@@ -1,21 +1,22 @@
 -- What private functions of the net report promise. No promise of a public call rests on these.
 use Prim.Native.Nat.{ℕ, _+_, _*_, _≤_}
 use mathlib.Core.Path.{_≡_}
+use mathlib.Core.Logic.{_≢_}
 use mathlib.Core.Bool.{false}
-use mathlib.Core.List.{List, _++_}
-use lib.ListN.{length, getD, take, drop}
-use Rattle.grid.specs.Channel.{over}
+use mathlib.Core.List.{List}
+use lib.ListN.{length, take, getD}
+use Rattle.grid.specs.Channel.{times, over}
 use Rattle.checker.specs.declared.Fault.{Fault}
 use Rattle.report.specs.declared.NetRecord.{NetRecord}
 use Rattle.report.specs.declared.Drawing.{Drawing}
 use Rattle.report.specs.declared.Drawing.the-variants.{Absent, Given}
 use Rattle.report.specs.declared.Collected.{Collected}
 use Rattle.report.specs.declared.Reported.the-variants.{Refused}
-use Rattle.report.specs.Report.{blankTable, tableAfter}
+use Rattle.report.specs.Report.{blankTable}
 
 -- a number without place, column and row
-abbrev pub numbered : ℕ → Fault
-numbered k = record { number = k; place = 0; column = 0; row = 0 }
+abbrev pub numberOnly : ℕ → Fault
+numberOnly k = record { number = k; place = 0; column = 0; row = 0 }
 
 -- the record of net v from a table for each figure
 abbrev pub inTables : (first last pins lengths : List ℕ) → ℕ → NetRecord
@@ -31,8 +32,17 @@ abbrev pub Countable : Drawing → (D : List ℕ) → Type 0
 Countable Absent D = Unit {0}
 Countable (Given w t) D = (length D ≡ w * (2 * t + 1)) × (length D ≤ 522753) × (over D ≡ false)
 
--- the first `count` of the records, written to the front of a table of so many, leave what the call leaves
-pub record Writes (top bottom : List ℕ) (drawing : Drawing) (D : List ℕ) (size count : ℕ) (records : List NetRecord) : Type 0 where
-  pub few : count ≤ 256
-  pub fits : count ≤ size
-  pub leaves : (table : List NetRecord) → length table ≡ size → take count records ++ drop count table ≡ tableAfter top bottom drawing D table
+-- COUNTS IN FOUR TABLES
+-- what they hold together for a number
+abbrev pub four : (a b c d : List ℕ) → ℕ → ℕ
+four a b c d v = getD a v 0 + (getD b v 0 + (getD c v 0 + getD d v 0))
+
+-- four tables of 257 places that hold together at most m for each number
+pub record FourTables (a b c d : List ℕ) (m : ℕ) : Type 0 where
+  pub sizes : (length a ≡ 257) × (length b ≡ 257) × (length c ≡ 257) × (length d ≡ 257)
+  pub most : (v : ℕ) → four a b c d v ≤ m
+
+-- the first i entries of a layout are counted in them; 0 is no net
+pub record CountedTo (D : List ℕ) (i : ℕ) (a b c d : List ℕ) : Type 0 where
+  pub tables : FourTables a b c d i
+  pub counts : (v : ℕ) → v ≢ 0 → four a b c d v ≡ times v (take i D)

@@ -11,14 +11,15 @@ ghost use Prim.Native.Nat.{_≤_};
 ghost use lib.ListN.{length, take, drop};
 ghost use Rattle.grid.specs.Channel.{rowsRefused};
 ghost use Rattle.grid.specs.Working.{ByNet};
-ghost use Rattle.report.specs.Report.{upTo, lengthIn, faultOf, faultWith, drawingNumber, refused, reported, tableAfter, blankTable};
-ghost use Rattle.report.specs.Working.{numbered, inTables, refusedWith, Countable, Writes};
+ghost use Rattle.report.specs.Report.{upTo, lengthIn, faultOf, faultWith, drawingNumber, refused, reported, collected, tableAfter, blankTable};
+ghost use Rattle.report.specs.Working.{numberOnly, inTables, refusedWith, Countable};
 
-// Columns are counted from 1; an unused number has zeros. The length is counted in a drawing, and 0 without one.
+// Columns are counted from 1; an unused number has zeros. The length is counted in a drawing, and 0 without one. As a length needs 32 bits, all four have
+// them, so that a record has no padding.
 pub struct NetRecord {
-    pub first: u16,
-    pub last: u16,
-    pub pins: u16,
+    pub first: u32,
+    pub last: u32,
+    pub pins: u32,
     pub length: u32,
 }
 
@@ -39,16 +40,16 @@ pub struct Reply {
     pub table: [NetRecord; 256],
 }
 
-// What is known before the table is touched: the answer, and the records, of which the first `count` are to be written.
-struct Collected {
-    answer: Reported,
-    count: usize,
-    records: [NetRecord; 256],
+// What a call answers, and what it writes to the front of its table: the first `count` of the records.
+pub struct Collected {
+    pub answer: Reported,
+    pub count: usize,
+    pub records: [NetRecord; 256],
 }
 
 // A number without place, column and row.
 fn refusal(number: u16) -> Fault
-    ensures { λ f. ⌜ f ≡ numbered number ⌝ }
+    ensures { λ f. ⌜ f ≡ numberOnly number ⌝ }
 {
     Fault {
         number,
@@ -81,6 +82,13 @@ fn blank() -> [NetRecord; 256]
     [none; 256]
 }
 
+// A number of a record, wide enough for a length.
+fn wide(x: u16) -> u32
+    ensures { λ r. ⌜ r ≡ x ⌝ }
+{
+    x as u32
+}
+
 // The record of a net, from a table for each figure with the nets at their numbers.
 fn record_of(
     first: &[u16; 257],
@@ -93,9 +101,9 @@ fn record_of(
     ensures { λ r. ⌜ r ≡ inTables (now (first .entry)) (now (last .entry)) (now (pins .entry)) (now (lengths .entry)) net ⌝ }
 {
     NetRecord {
-        first: first[net],
-        last: last[net],
-        pins: pins[net],
+        first: wide(first[net]),
+        last: wide(last[net]),
+        pins: wide(pins[net]),
         length: lengths[net],
     }
 }
@@ -129,12 +137,10 @@ fn drawing_fault(top: &[u16], bottom: &[u16], drawing: Drawing, layout: &[u16]) 
         Drawing::Absent => refusal(0),
         Drawing::Given(w, t) => {
             let c = checker::check(top, bottom, w, t, layout);
-            Fault {
-                number: checker::number_of(c),
-                place: checker::place_of(c),
-                column: checker::column_of(c),
-                row: checker::row_of(c),
-            }
+            let Checked::Refused(f) = c else {
+                return refusal(0);
+            };
+            f
         }
     }
 }
@@ -161,10 +167,15 @@ fn refuse(fault: Fault) -> Collected
     }
 }
 
-// The answer for a table of `size` records, and what is written to it.
-fn collect(top: &[u16], bottom: &[u16], drawing: Drawing, layout: &[u16], size: usize) -> Collected
-    ensures { λ r. ⌜ (r .answer ≡ reported (now (top .entry)) (now (bottom .entry)) drawing (now (layout .entry)) size)
-        × Writes (now (top .entry)) (now (bottom .entry)) drawing (now (layout .entry)) size (r .count) (r .records) ⌝ }
+// The net report for a table of `size` records, before the table is touched. Its signature names no reference to records, so its callers lend none.
+pub fn collect(
+    top: &[u16],
+    bottom: &[u16],
+    drawing: Drawing,
+    layout: &[u16],
+    size: usize,
+) -> Collected
+    ensures { λ r. ⌜ r ≡ collected (now (top .entry)) (now (bottom .entry)) drawing (now (layout .entry)) size ⌝ }
 {
     let mut first = grid::zeros();
     let mut last = grid::zeros();
@@ -218,7 +229,7 @@ pub fn report(
     c.answer
 }
 
-// The net report into a table of its own, zeros on refusal. Its signature names no reference to records, so its callers lend none.
+// The net report into a table of its own, zeros on refusal: the call over a slice of records, for programs, which cannot lend one.
 pub fn table_of(top: &[u16], bottom: &[u16], drawing: Drawing, layout: &[u16]) -> Reply
     ensures answer { λ r. ⌜ r .answer ≡ reported (now (top .entry)) (now (bottom .entry)) drawing (now (layout .entry)) 256 ⌝ }
     ensures fault { λ r. ⌜ faultOf (r .answer) ≡ faultWith (now (top .entry)) (now (bottom .entry)) drawing (now (layout .entry))

@@ -22,6 +22,18 @@ fn fill(nets: &Nets, lengths: &[u32; 257], figures: &mut [u32]) {
     }
 }
 
+/// How often each number stands in a layout. Four tables in turn, so that no
+/// count waits for the one before.
+fn lengths(layout: &[u16]) -> [u32; 257] {
+    let mut tables = [[0; 257]; 4];
+    for entries in layout.chunks(4) {
+        for (table, &net) in tables.iter_mut().zip(entries) {
+            table[net as usize] += 1;
+        }
+    }
+    std::array::from_fn(|net| tables.iter().map(|table| table[net]).sum())
+}
+
 /// The report without a drawing.
 pub fn report(top: &[u16], bottom: &[u16], figures: &mut [u32]) -> Result<(), u16> {
     let nets = reported(top, bottom, figures)?;
@@ -44,9 +56,7 @@ pub fn report_drawing(
     };
     let checked = check_nets(&nets, top, bottom, w, t, layout);
     if checked.number == 0 {
-        let mut lengths = [0; 257];
-        layout.iter().for_each(|&net| lengths[net as usize] += 1);
-        fill(&nets, &lengths, figures);
+        fill(&nets, &lengths(layout), figures);
     }
     checked
 }

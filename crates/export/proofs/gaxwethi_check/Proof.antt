@@ -4,7 +4,7 @@ use mathlib.Core.Path.{_≡_, ap}
 use Rattle.checker.specs.declared.Checked.{Checked}
 use Rattle.checker.specs.Check.{numberOf, placeOf, faultColumn, faultRow}
 use Rattle.export.specs.declared.CheckResult.{CheckResult}
-use Rattle.export.specs.Export.{faultOf}
+use Rattle.export.specs.Export.{checkedOf}
 use borrow.Author.Needs.{needs}
 use Rattle.export.proofs.gaxwethi_check.Statement.{statement}
 use Rattle.export.proofs.gaxwethi_check.Tie as tie
@@ -12,8 +12,8 @@ use Rattle.export.proofs.gaxwethi_check.Tie as tie
 -- the four numbers of an answer make its result
 made :
     (a b : Checked) (k p c r : ℕ) → a ≡ b → k ≡ numberOf a → p ≡ placeOf a → c ≡ faultColumn a → r ≡ faultRow a
-    → _≡_ {A = CheckResult} (record { number = k; place = p; column = c; row = r }) (faultOf b)
-made a b k p c r e f g h i = rw (f, g, h, i) (ap faultOf e)
+    → _≡_ {A = CheckResult} (record { number = k; place = p; column = c; row = r }) (checkedOf b)
+made a b k p c r e f g h i = rw (f, g, h, i) (ap checkedOf e)
 
 check-requires : tie.Need-check-requires
 check-requires c κs = search needs

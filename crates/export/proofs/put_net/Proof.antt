@@ -10,17 +10,11 @@ use Rattle.export.proofs.put_net.Tie as tie
 mul-at : tie.Need-mul-at
 mul-at c = search needs
 
-wide-requires : tie.Need-wide-requires
-wide-requires c κs = search needs
-
 mul-figures : tie.Need-mul-figures
 mul-figures c = search needs
 
 slice-write-figures : tie.Need-slice-write-figures
 slice-write-figures c = search needs
-
-wide-requires-2 : tie.Need-wide-requires-2
-wide-requires-2 c κs = search needs
 
 add-figures : tie.Need-add-figures
 add-figures c = search needs
@@ -30,9 +24,6 @@ mul-figures-2 c = search needs
 
 slice-write-figures-2 : tie.Need-slice-write-figures-2
 slice-write-figures-2 c = simp length-set (omega arith)
-
-wide-requires-3 : tie.Need-wide-requires-3
-wide-requires-3 c κs = search needs
 
 add-figures-2 : tie.Need-add-figures-2
 add-figures-2 c = search needs
@@ -57,21 +48,18 @@ same-length c = search needs
 
 returns : tie.Need-returns
 unfolding netPut
-returns c = rw (c .before .before .wide .ensures, c .before .wide2 .ensures, c .wide3 .ensures) refl
+returns c = refl
 
 pub put-net-spec : {M : Type 1} → statement M
 put-net-spec =
     tie.close
     (tie.spec
     mul-at
-    wide-requires
     mul-figures
     slice-write-figures
-    wide-requires-2
     add-figures
     mul-figures-2
     slice-write-figures-2
-    wide-requires-3
     add-figures-2
     mul-figures-3
     slice-write-figures-3

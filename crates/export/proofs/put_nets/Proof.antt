@@ -1,20 +1,20 @@
 -- `put_nets` meets its contract: the numbers of the records passed stand in front of the old ones. Assumes nothing.
-use Prim.Native.Nat.{_*_, _-_, _≤_}
-use mathlib.Core.Path.{_≡_, refl}
+use Prim.Native.Nat.{ℕ, _*_, _-_, _≤_}
+use mathlib.Core.Path.{_≡_, refl, ap, _∙_}
 use mathlib.Core.List.{_++_}
 use lib.ListN.{length, take, drop}
 use Rattle.export.specs.Export.{flat}
-use Rattle.export.proofs.Figures.{none-put, put-long, one-put, all-put}
+use Rattle.export.proofs.Figures.{none-put, put-long, one-put}
 use native.Mathlib.Omega.{arith}
 use borrow.Author.Needs.{needs}
 use Rattle.export.proofs.put_nets.Statement.{statement}
 use Rattle.export.proofs.put_nets.Tie as tie
 
 abbrev Inv-loop : tie.InvT-loop
-Inv-loop figures₀ nets k₀ figures k = (k ≤ 256) × (figures ≡ flat (take k nets) ++ drop (4 * k) figures₀)
+Inv-loop figures₀ count nets k₀ figures k = (k ≤ count) × (figures ≡ flat (take k nets) ++ drop (4 * k) figures₀)
 
 abbrev μ-loop : tie.MeasureT-loop
-μ-loop figures₀ nets k₀ figures k = 256 - k
+μ-loop figures₀ count nets k₀ figures k = count - k
 
 loop-holds : tie.Need-loop-holds Inv-loop μ-loop
 loop-holds c =
@@ -62,8 +62,8 @@ returns : tie.Need-returns Inv-loop μ-loop
 returns c =
     let l = c .before .loop in
     let z = c .before .before .before in
-    let n : length (z .args .t2) ≡ 256 = omega (arith, z .good) in
-    all-put (z .args .t2) (z .args .figures .now) (l .figures) (l .k) (omega arith) n (l .inv .1)
+    let e : l .k ≡ z .args .count = omega arith in
+    l .inv .1 ∙ ap (λ (m : ℕ). flat (take m (z .args .t2)) ++ drop (4 * m) (z .args .figures .now)) e
 
 pub put-nets-spec : {M : Type 1} → statement M
 put-nets-spec =

@@ -44,8 +44,9 @@ returns c =
     let f = c .before .before .before .before .before in
     let a = f .before .before .before .before .before .before .before .before .before .before .args in
     let d = c .before .before .before .enum-told2 .given in
-    refuses-rows (a .top .now) (a .bottom .now) (a .drawing) (a .layout .now) (a .size) (f .net-facts .result) (d .0 .0) (c .before .before .number-of .result) (c .refuse .result)
-    (f .net-facts .ensures .0) (d .1) (c .before .before .number-of .ensures) (c .refuse .ensures ∙ ap refusedWith (c .before .refusal .ensures))
+    c .refuse .ensures ∙ ap refusedWith (c .before .refusal .ensures)
+    ∙ refuses-rows (a .top .now) (a .bottom .now) (a .drawing) (a .layout .now) (a .size) (f .net-facts .result) (d .0 .0) (c .before .before .number-of .result)
+    (f .net-facts .ensures .0) (d .1) (c .before .before .number-of .ensures)
 
 refusal-requires-2 : tie.Need-refusal-requires-2
 refusal-requires-2 c κs = search needs
@@ -59,8 +60,8 @@ returns-2 c =
     let f = g .before .before in
     let a = f .before .before .before .before .before .before .before .before .before .before .args in
     let t = told (a .top .now) (a .bottom .now) 256 (f .net-facts .result) (g .enum-told .given .0 .0) (f .net-facts .ensures .0) (g .enum-told .given .1) in
-    refuses-table (a .top .now) (a .bottom .now) (a .drawing) (a .layout .now) (a .size) (t .number) (c .refuse2 .result) (omega (arith, c .before .before .if1 .taken))
-    (c .refuse2 .ensures ∙ ap refusedWith (c .before .refusal2 .ensures))
+    c .refuse2 .ensures ∙ ap refusedWith (c .before .refusal2 .ensures)
+    ∙ refuses-table (a .top .now) (a .bottom .now) (a .drawing) (a .layout .now) (a .size) (t .number) (omega (arith, c .before .before .if1 .taken))
 
 drawing-fault-requires : tie.Need-drawing-fault-requires
 drawing-fault-requires c κs =
@@ -80,8 +81,9 @@ returns-3 c =
     let a = f .before .before .before .before .before .before .before .before .before .before .args in
     let t = told (a .top .now) (a .bottom .now) 256 (f .net-facts .result) (g .enum-told .given .0 .0) (f .net-facts .ensures .0) (g .enum-told .given .1) in
     let h = c .before .before .before in
-    refuses-drawing (a .top .now) (a .bottom .now) (a .drawing) (a .layout .now) (a .size) (t .number) (omega (arith, c .before .before .before .before .if1 .left)) (h .drawing-fault .result)
-    (h .drawing-fault .ensures) (c .refuse3 .result) (c .before .if2 .taken) (c .refuse3 .ensures)
+    c .refuse3 .ensures
+    ∙ refuses-drawing (a .top .now) (a .bottom .now) (a .drawing) (a .layout .now) (a .size) (t .number) (omega (arith, c .before .before .before .before .if1 .left))
+    (h .drawing-fault .result) (h .drawing-fault .ensures) (c .before .if2 .taken)
 
 lengths-in-requires : tie.Need-lengths-in-requires
 lengths-in-requires c κs =

@@ -169,7 +169,7 @@ module _ {M : Type 1} (𝓤 : URA M) (H : Heap 𝓤) (A : Atoms 𝓤) (W : Given
         assigns ! (bin ! (load ! (from ! (stop !)) (look ! 2 refl)) (lit ! tt) (record { fits = off-fits less })) (from ! (stop !)) (init ! 4 refl (tt, record { fits = off-fits less })) $
         assigns ! (addr ! (from ! (stop !))) (from ! (stop !)) (init ! 5 refl (tt, tt)) $
         assigns ! (bin ! (load ! (from ! (stop !)) (look ! 5 refl)) (load ! (from ! (stop !)) (look ! 4 refl)) tt) (from ! (stop !)) (init ! 6 refl (tt, tt)) $
-        rewrite ! 6 (λ (p : ℕ). ‵ (fat fullShare tyPtr l₉ 0 (vptr l₄ p))) (sym (place-is 12 0 j)) refl $
+        rewrite ! 6 (λ (p : ℕ). ‵ (fat fullShare tyPtr l₉ 0 (vptr l₄ p))) (sym (place-is 16 0 j)) refl $
         move ! (1 ∷ []) $ elem-out ! R (Is R) (shows 𝓤 H A R) rv (LL.tells T.the-type T′.the-laws) fullShare xs j zeroRecord l₄ 0 (in-array less) (λ is.
         -- [records[k]; what it owns; the others; the slice's row; _5; …]
         assigns ! (of-opd ! (load ! (from ! (hop ! (look ! 8 refl) (stop !))) (look-raw ! 0 refl))) (from ! (stop !)) (init ! 9 refl (LL.lawful T.the-type T′.the-laws 𝓤 H A W .typed (getD xs j zeroRecord) _ is .0)) $
@@ -177,7 +177,7 @@ module _ {M : Type 1} (𝓤 : URA M) (H : Heap 𝓤) (A : Atoms 𝓤) (W : Given
         -- [the array's row; the slice's row; _5; …]: and stored to the slice
         assigns ! (bin ! (load ! (from ! (stop !)) (look ! 2 refl)) (lit ! tt) (record { fits = off-fits less })) (from ! (stop !)) (init ! 8 refl (tt, record { fits = off-fits less })) $
         assigns ! (bin ! (load ! (from ! (fld ! refl (stop !))) (look-in ! 10 (sub ! 0 refl (whole !)))) (load ! (from ! (stop !)) (look ! 8 refl)) tt) (from ! (stop !)) (init ! 9 refl (tt, tt)) $
-        rewrite ! 9 (λ (p : ℕ). ‵ (fat fullShare tyPtr l₁₂ 0 (vptr b p))) (sym (place-is 12 o j)) refl $
+        rewrite ! 9 (λ (p : ℕ). ‵ (fat fullShare tyPtr l₁₂ 0 (vptr b p))) (sym (place-is 16 o j)) refl $
         move ! (1 ∷ []) $ elem-out ! R (Is R) (shows 𝓤 H A R) rv (LL.tells T.the-type T′.the-laws) fullShare (copied xs j ys) j zeroRecord b o (within less) (λ _.
         -- [table[k]; what it owns; the others; the array's row; _5; …]
         assigns ! (of-opd ! (load ! (from ! (stop !)) (look ! 9 refl))) (from ! (hop ! (look ! 11 refl) (stop !))) (store-raw ! 0 refl (LL.lawful T.the-type T′.the-laws 𝓤 H A W .typed (getD xs j zeroRecord) _ is .0)) $
@@ -207,7 +207,7 @@ module _ {M : Type 1} (𝓤 : URA M) (H : Heap 𝓤) (A : Atoms 𝓤) (W : Given
         below : Holds (ltb j n) → j < 256
         below less = omega (arith, ltb→lt j n less, few)
 
-        off-fits : Holds (ltb j n) → j * 12 < 2 ^ 64
+        off-fits : Holds (ltb j n) → j * 16 < 2 ^ 64
         off-fits less = omega (arith, below less)
 
         in-array : Holds (ltb j n) → j < length xs

@@ -42,8 +42,7 @@ use denote.Triple.Table.{entered, cited}
 use denote.Triple.Walked.{says, Stays, stay-dropped, gave-slice, walkOf, AllGo, goes-dropped, goes-gave-slice, Walks, ends-at, walked, walk-meets}
 use denote.Signature.{plain, shrSliceOf}
 use denote.Exit.{yes}
-use Rattle.report.specs.Report.{faultOf, reported}
-use Rattle.report.specs.Working.{Writes}
+use Rattle.report.specs.Report.{faultOf, collected}
 use Rattle.report.specs.declared.NetRecord.{NetRecord}
 use Rattle.report.specs.declared.Collected.{Collected}
 use Rattle.report.specs.declared.Drawing.{Drawing}
@@ -66,7 +65,7 @@ use Rattle.report.proofs.fill.Symbol.{name as #fill}
 use Rattle.report.proofs.fill.Met as fill-thm
 use Rattle.report.proofs.Arrays.{array-out}
 use Rattle.report.proofs.Clauses.{says-three}
-use Rattle.report.proofs.Answers.{fault-of-reported}
+use Rattle.report.proofs.Answers.{fault-of-reported, Writes, writes}
 use Rattle.report.proofs.report.Key.{name as #report}
 use Rattle.report.proofs.report as report
 use Rattle.report.proofs.report.Statement as stated
@@ -175,15 +174,13 @@ module _ {M : Type 1} (𝓤 : URA M) (H : Heap 𝓤) (A : Atoms 𝓤) (W : Given
   asks-collect = qed W (Three ∷ ‵ Passed ∷ []) ∵ join ! $ frame ! $ done !
 
   abbrev Facts : Collected → Type 0
-  Facts c =
-      (c .answer ≡ reported (now top) (now bottom) drawing (now layout) (length ys))
-      × Writes (now top) (now bottom) drawing (now layout) (length ys) (c .count) (c .records)
+  Facts c = c ≡ collected (now top) (now bottom) drawing (now layout) (length ys)
 
   abbrev Ensured : Collected → SProp 𝓤
   Ensured c = ensured 𝓤 H A collect.ended (collect.clauses 𝓤 H A mem run) (κ₀, (κ₁, (κ₂, tt))) passed tt c
 
-  collected : (c : Collected) → ent 𝓤 (Ensured c) (fact 𝓤 (Facts c))
-  collected c = exE 𝓤 _ (λ ws. snd∗ 𝓤 (sem 𝓤 H A (lasts collect.ended (κ₀, (κ₁, (κ₂, tt))) passed ws)) (fact 𝓤 (Facts c)))
+  heard-collected : (c : Collected) → ent 𝓤 (Ensured c) (fact 𝓤 (Facts c))
+  heard-collected c = exE 𝓤 _ (λ ws. snd∗ 𝓤 (sem 𝓤 H A (lasts collect.ended (κ₀, (κ₁, (κ₂, tt))) passed ws)) (fact 𝓤 (Facts c)))
 
   -- ---- the call of `fill`, at the table's own lifetime, share and name
   abbrev handed : Collected → RefT (List NetRecord) × (List NetRecord × (ℕ × Unit {0}))
@@ -198,9 +195,13 @@ module _ {M : Type 1} (𝓤 : URA M) (H : Heap 𝓤) (A : Atoms 𝓤) (W : Given
 
   -- ---- from c, with its machine value v, on
   module _ (c : Collected) (v : Val) (is : Is C.the-row c (v ∷ [])) (e : Facts c) where
+    -- what that says of the answer and of the table
+    told : Writes (now top) (now bottom) drawing (now layout) (length ys) c
+    told = writes (now top) (now bottom) drawing (now layout) (length ys) c e
+
     asks-fill : ent 𝓤 (⋆ 𝓤 H A (‵ (flft κ₃ q₃) ∷ ‵ Table ∷ [])) (Fill 𝓤 H A mem run .pre (to-fill c))
     asks-fill =
-        qed W (‵ (flft κ₃ q₃) ∷ ‵ Table ∷ []) ∵ says ! (e .1 .few, e .1 .fits) $
+        qed W (‵ (flft κ₃ q₃) ∷ ‵ Table ∷ []) ∵ says ! (told .few, told .fits) $
         nothing ! $ owned ! usize (Is usize) (uint-makes 𝓤 H A W w64) (c .count) _ (made-count c v is) $ fjoin ! $
         owned ! AR (Is AR) (array-makes 𝓤 H A W R (LL.makes T.the-type T′.the-plain 𝓤 H A) 256) (c .records) _ (made-records c v is) $ fjoin ! $ move ! (2 ∷ 0 ∷ []) $ fjoin ! $
         nothing ! $ move ! (2 ∷ 0 ∷ []) $ join ! $ frame ! $ done !
@@ -211,7 +212,7 @@ module _ {M : Type 1} (𝓤 : URA M) (H : Heap 𝓤) (A : Atoms 𝓤) (W : Given
         qed W (Three ∷ ‵ (flft κ₃ q₃) ∷ ‵ (finally R γ zs) ∷ []) ∵
         suffices ! _ (ends-at 𝓤 H A report.ended stayed (report.clauses 𝓤 H A mem run) W ((κs, (q₀, (q₁, (q₂, (q₃, tt)))), tt, a, vals), tt) (out (c .answer)) (c .answer)
         (tt, (tt, (tt, (tt, (zs, tt))))) (tt, (tt, (tt, (tt, (l, tt)))))) $
-        says-three ! (e .0) (ap faultOf (e .0) ∙ fault-of-reported (now top) (now bottom) drawing (now layout) (length ys)) (is-zs ∙ e .1 .leaves ys refl) $
+        says-three ! (told .answers) (ap faultOf (told .answers) ∙ fault-of-reported (now top) (now bottom) drawing (now layout) (length ys)) (is-zs ∙ told .leaves ys refl) $
         split ! $ move ! (1 ∷ []) $ split ! $ move ! (1 ∷ []) $ split ! $ move ! (4 ∷ 1 ∷ []) $ join ! $ move ! (1 ∷ 0 ∷ []) $ join ! $ move ! (1 ∷ 0 ∷ []) $ join ! $ move ! (1 ∷ 0 ∷ []) $ join ! $ frame ! $
         nothing ! $ move ! (1 ∷ 0 ∷ []) $ fjoin ! $ nothing ! $ fjoin ! $ nothing ! $ fjoin ! $ nothing ! $ fjoin ! $ nothing ! $ fjoin ! $
         owned ! O.the-row (Is O.the-row) (EL.makes O.the-type O′.the-plain 𝓤 H A) (c .answer) _ (made-answer c v is) $ move ! (1 ∷ 0 ∷ []) $ done !
@@ -238,7 +239,7 @@ module _ {M : Type 1} (𝓤 : URA M) (H : Heap 𝓤) (A : Atoms 𝓤) (W : Given
         (and-then ! (load ! (from ! (stop !)) (look ! 21 refl)) (and-then ! (load ! (from ! (stop !)) (look ! 19 refl)) (and-then ! (load ! (from ! (stop !)) (look ! 17 refl))
         (and-then ! (load ! (from ! (stop !)) (look ! 15 refl)) (and-then ! (load ! (from ! (stop !)) (look ! 9 refl)) (no-more !)))))) (λ v.
         use1 W (later (some (λ (c : Collected). (Three ⊛ ‵ (C.the-row .own c (v ∷ []))) ⊛ raw (Ensured c)))) (id⊢ 𝓤 _) $ await ! tt $ pick! ! (λ c.
-        split ! $ move ! (1 ∷ []) $ use1 W (raw (fact 𝓤 (Facts c))) (collected c) $ heard ! (Facts c) (λ e. split ! $ move ! (1 ∷ []) $
+        split ! $ move ! (1 ∷ []) $ use1 W (raw (fact 𝓤 (Facts c))) (heard-collected c) $ heard ! (Facts c) (λ e. split ! $ move ! (1 ∷ []) $
         -- [what c owns; three tokens; what table owns; its token; _10; …]
         peeks ! C.the-row (Is C.the-row) (shows 𝓤 H A C.the-row) c (v ∷ []) (λ is.
         land ! (from ! (stop !)) (init ! 12 refl (LL.lawful C.the-type C′.the-laws 𝓤 H A W .typed c _ is .0)) $ drop! ! $

@@ -1,80 +1,52 @@
 -- `report::lengths::counted` meets its contract: after i entries each number is counted as often as it stands among them. Assumes nothing.
-use Prim.Native.Nat.{_≤_, _-_}
-use mathlib.Core.Path.{refl}
-use lib.ListN.{length, getD}
-use Rattle.report.proofs.Tallies.{Tallied, none-tallied, one-tallied, all-tallied}
-use Rattle.grid.proofs.Scanning.{none-over}
+use Prim.Native.Nat.{_+_, _-_, _≤_}
+use lib.ListN.{length}
+use Rattle.report.specs.Working.{CountedTo}
+use Rattle.report.proofs.Tallies.{none-counted, all-counted}
 use native.Mathlib.Omega.{arith}
 use borrow.Author.Needs.{needs}
 use Rattle.report.proofs.lengths.counted.Statement.{statement}
 use Rattle.report.proofs.lengths.counted.Tie as tie
 
 abbrev Inv-loop : tie.InvT-loop
-Inv-loop layout counts₀ i₀ counts i = (i ≤ length layout) × Tallied layout i counts
+Inv-loop layout a₀ b₀ c₀ d₀ i₀ a b c d i = (i ≤ length layout + 3) × CountedTo layout i a b c d
 
 abbrev μ-loop : tie.MeasureT-loop
-μ-loop layout counts₀ i₀ counts i = length layout - i
+μ-loop layout a₀ b₀ c₀ d₀ i₀ a b c d i = length layout - i
 
 none-requires : tie.Need-none-requires Inv-loop μ-loop
 none-requires c κs = search needs
 
+none-requires-2 : tie.Need-none-requires-2 Inv-loop μ-loop
+none-requires-2 c κs = search needs
+
+none-requires-3 : tie.Need-none-requires-3 Inv-loop μ-loop
+none-requires-3 c κs = search needs
+
+none-requires-4 : tie.Need-none-requires-4 Inv-loop μ-loop
+none-requires-4 c κs = search needs
+
 loop-holds : tie.Need-loop-holds Inv-loop μ-loop
-loop-holds c = (omega arith, none-tallied (c .before .before .args .layout .now) _ (c .none .ensures))
+loop-holds c =
+    (omega arith, none-counted (c .before .before .before .before .before .args .layout .now) _ _ _ _ (c .before .before .before .none .ensures) (c .before .before .none2 .ensures) (c .before .none3 .ensures) (c .none4 .ensures))
 
-mul-e : tie.Need-mul-e Inv-loop μ-loop
-mul-e c = search needs
+slice-aggregate-tally-four : tie.Need-slice-aggregate-tally-four Inv-loop μ-loop
+slice-aggregate-tally-four c = search needs
 
-shared-slice-read-e : tie.Need-shared-slice-read-e Inv-loop μ-loop
-shared-slice-read-e c = search needs
+slice-aggregate-tally-four-2 : tie.Need-slice-aggregate-tally-four-2 Inv-loop μ-loop
+slice-aggregate-tally-four-2 c = search needs
 
-cast-e : tie.Need-cast-e Inv-loop μ-loop
-cast-e c =
-    let b = c .before .before in
-    let l = b .loop in
-    let z = b .before .before .before in
-    let o = none-over (z .args .layout .now) (l .i) (z .pre .0) in
-    omega arith
+slice-aggregate-tally-four-3 : tie.Need-slice-aggregate-tally-four-3 Inv-loop μ-loop
+slice-aggregate-tally-four-3 c = search needs
 
-mul-counts : tie.Need-mul-counts Inv-loop μ-loop
-mul-counts c =
-    let b = c .before .before in
-    let l = b .loop in
-    let z = b .before .before .before in
-    let o = none-over (z .args .layout .now) (l .i) (z .pre .0) in
-    omega arith
+slice-aggregate-tally-four-4 : tie.Need-slice-aggregate-tally-four-4 Inv-loop μ-loop
+slice-aggregate-tally-four-4 c = search needs
 
-array-read-counts : tie.Need-array-read-counts Inv-loop μ-loop
-array-read-counts c =
-    let b = c .before .before in
-    let l = b .loop in
-    let z = b .before .before .before in
-    let o = none-over (z .args .layout .now) (l .i) (z .pre .0) in
-    omega arith
-
-add-counts : tie.Need-add-counts Inv-loop μ-loop
-add-counts c =
-    let b = c .before .before in
-    let l = b .loop in
-    let z = b .before .before .before in
-    let o = none-over (z .args .layout .now) (l .i) (z .pre .0) in
-    let f = l .inv .1 .few (getD (z .args .layout .now) (l .i) 0) in
-    omega (arith, z .pre .1)
-
-mul-counts-2 : tie.Need-mul-counts-2 Inv-loop μ-loop
-mul-counts-2 c =
-    let b = c .before .before in
-    let l = b .loop in
-    let z = b .before .before .before in
-    let o = none-over (z .args .layout .now) (l .i) (z .pre .0) in
-    omega arith
-
-array-write-counts : tie.Need-array-write-counts Inv-loop μ-loop
-array-write-counts c =
-    let b = c .before .before in
-    let l = b .loop in
-    let z = b .before .before .before in
-    let o = none-over (z .args .layout .now) (l .i) (z .pre .0) in
-    omega arith
+tally-four-requires : tie.Need-tally-four-requires Inv-loop μ-loop
+tally-four-requires c κs =
+    let l = c .before .before .before .before .before .loop in
+    let z = c .before .before .before .before .before .before .before .before .before .before .before in
+    (z .pre .0, omega (arith, z .pre .1), l .inv .1)
 
 add-i : tie.Need-add-i Inv-loop μ-loop
 add-i c = search needs
@@ -83,15 +55,30 @@ loop-less : tie.Need-loop-less Inv-loop μ-loop
 loop-less c = search needs
 
 loop-again : tie.Need-loop-again Inv-loop μ-loop
-loop-again c =
-    let b = c .before .before in
-    let l = b .loop in
-    let z = b .before .before .before in
-    let o = none-over (z .args .layout .now) (l .i) (z .pre .0) in
-    (omega arith, one-tallied (z .args .layout .now) (l .i) (l .counts) (l .inv .1) _ o refl)
+loop-again c = (omega arith, c .before .before .before .before .tally-four .ensures)
+
+slice-aggregate-added : tie.Need-slice-aggregate-added Inv-loop μ-loop
+slice-aggregate-added c = search needs
+
+slice-aggregate-added-2 : tie.Need-slice-aggregate-added-2 Inv-loop μ-loop
+slice-aggregate-added-2 c = search needs
+
+slice-aggregate-added-3 : tie.Need-slice-aggregate-added-3 Inv-loop μ-loop
+slice-aggregate-added-3 c = search needs
+
+slice-aggregate-added-4 : tie.Need-slice-aggregate-added-4 Inv-loop μ-loop
+slice-aggregate-added-4 c = search needs
+
+added-requires : tie.Need-added-requires Inv-loop μ-loop
+added-requires c κs =
+    let h = c .before .before .before .before .before .loop .inv .1 .tables in
+    record { sizes = h .sizes; most = λ v. omega (arith, h .most v, c .before .before .before .before .before .before .before .before .before .before .before .pre .1) }
 
 returns : tie.Need-returns Inv-loop μ-loop
-returns c = all-tallied _ (c .before .loop .i) _ (c .before .loop .inv .1) (omega arith)
+returns c =
+    let l = c .before .before .before .before .before .before .loop in
+    let r = c .added in
+    all-counted _ (l .i) (l .a) (l .b) (l .c) (l .d) (r .result) (l .inv .1) (omega arith) (r .ensures .0) (r .ensures .1)
 
 pub counted-spec : {M : Type 1} → statement M
 counted-spec =
@@ -100,16 +87,21 @@ counted-spec =
     Inv-loop
     μ-loop
     none-requires
+    none-requires-2
+    none-requires-3
+    none-requires-4
     loop-holds
-    mul-e
-    shared-slice-read-e
-    cast-e
-    mul-counts
-    array-read-counts
-    add-counts
-    mul-counts-2
-    array-write-counts
+    slice-aggregate-tally-four
+    slice-aggregate-tally-four-2
+    slice-aggregate-tally-four-3
+    slice-aggregate-tally-four-4
+    tally-four-requires
     add-i
     loop-less
     loop-again
+    slice-aggregate-added
+    slice-aggregate-added-2
+    slice-aggregate-added-3
+    slice-aggregate-added-4
+    added-requires
     returns)
