@@ -26,8 +26,8 @@ use Rattle.report.specs.declared.Drawing.the-variants.{Absent, Given}
 use Rattle.report.specs.declared.Collected.{Collected}
 use Rattle.report.specs.declared.Reported.the-variants.{Filled, Refused}
 use Rattle.report.specs.Report as reporting
-use Rattle.report.specs.Report.{blankTable, faultOf, answerOf, drawingNumber, faultWith, records, refused, reported, collected, tableAfter}
-use Rattle.report.specs.Working.{numberOnly, refusedWith}
+use Rattle.report.specs.Report.{blankTable, numberOnly, faultOf, answerOf, drawingNumber, faultWith, records, refused, reported, collected, tableAfter}
+use Rattle.report.specs.Working.{refusedWith}
 use Rattle.report.proofs.Records.{records-long}
 
 -- WHAT IS TOLD OF A NUMBER
@@ -153,6 +153,7 @@ module _ (top bottom : List ℕ) (drawing : Drawing) (D : List ℕ) (size : ℕ)
   collected-by k =
       record { answer = answerOf k (faultWith top bottom drawing D k); count = ifAccepted k 256 0; records = ifAccepted k (records top bottom drawing D) blankTable }
 
+  -- the number is that of the call
   collects : (k : ℕ) → k ≡ refused top bottom drawing D size → collected-by k ≡ collected top bottom drawing D size
   unfolding collected reported
   collects k e = ap collected-by e

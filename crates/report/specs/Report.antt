@@ -18,12 +18,16 @@ use Rattle.report.specs.declared.Collected.{Collected}
 use Rattle.report.specs.declared.Reported.the-variants.{Filled, Refused}
 use Rattle.report.specs.Length.{wireLength}
 
+-- a number without place, column and row
+abbrev pub numberOnly : ℕ → Fault
+numberOnly k = record { number = k; place = 0; column = 0; row = 0 }
+
 -- the document's number, place, column and row for each case of the answer: "The number on acceptance is 0"
 abbrev pub faultOf : Reported → Fault
-faultOf Filled = record { number = 0; place = 0; column = 0; row = 0 }
+faultOf Filled = numberOnly 0
 faultOf (Refused f) = f
 
--- the number alone
+-- its number
 abbrev pub numberOf : Reported → ℕ
 numberOf r = faultOf r .number
 
@@ -54,7 +58,7 @@ module _ (top bottom : List ℕ) where
 
   -- the checker's place, column and row that go with a number
   abbrev pub faultWith : Drawing → (D : List ℕ) → (number : ℕ) → Fault
-  faultWith Absent D k = record { number = k; place = 0; column = 0; row = 0 }
+  faultWith Absent D k = numberOnly k
   faultWith (Given w t) D k = record { number = k; place = place top bottom w t D k; column = column top bottom w t D k; row = row top bottom w t D k }
 
 module _ (top bottom : List ℕ) (drawing : Drawing) (D : List ℕ) where

@@ -14,10 +14,6 @@ use Rattle.report.specs.declared.Collected.{Collected}
 use Rattle.report.specs.declared.Reported.the-variants.{Refused}
 use Rattle.report.specs.Report.{blankTable}
 
--- a number without place, column and row
-abbrev pub numberOnly : ℕ → Fault
-numberOnly k = record { number = k; place = 0; column = 0; row = 0 }
-
 -- the record of net v from a table for each figure
 abbrev pub inTables : (first last pins lengths : List ℕ) → ℕ → NetRecord
 inTables first last pins lengths v =
