@@ -26,7 +26,7 @@ use Rattle.record.specs.Record as reading
 use Rattle.record.specs.Record.{topRow, bottomRow, laid}
 use Rattle.listing.specs.Listing as listing
 use Rattle.listing.proofs.Records.{listed-number, output-text, output-line}
-use Rattle.demands.specs.Slices.{LeavesSlices, LeavesRecords, LeavesLengths, LeavesRecord, NoColumn, Shows}
+use Rattle.demands.specs.Slices.{LeavesSlices, LeavesNetRecords, LeavesLengths, LeavesRecord, NoColumn, Shows}
 
 -- for all rows
 pub leaves : (top bottom : List ℕ) → LeavesSlices top bottom
@@ -51,8 +51,8 @@ module _ (top bottom : List ℕ) (old : List NetRecord) (d : NetRecord) where
       → reporting.refused top bottom drawing D (length old) ≡ 0
   let-through drawing D e = sym (report.number top bottom drawing D (length old)) ∙ e
 
-  pub leaves-records : (drawing : Drawing) (D : List ℕ) → LeavesRecords top bottom drawing D old d
-  leaves-records drawing D =
+  pub leaves-net-records : (drawing : Drawing) (D : List ℕ) → LeavesNetRecords top bottom drawing D old d
+  leaves-net-records drawing D =
       record {
         each = λ e. record-at top bottom drawing D old d (let-through drawing D e);
         unused = λ e.

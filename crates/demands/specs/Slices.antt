@@ -48,7 +48,7 @@ pub record LeavesSlices (top bottom : List ℕ) : Type 0 where
       × (factAfter top bottom (pins top bottom) most old ≡ table (pins top bottom))
 
 -- THE RECORDS that an accepted net report leaves in a table that held `old`; d serves for what lies past the table's end
-pub record LeavesRecords (top bottom : List ℕ) (drawing : Drawing) (D : List ℕ) (old : List NetRecord) (d : NetRecord) : Type 0 where
+pub record LeavesNetRecords (top bottom : List ℕ) (drawing : Drawing) (D : List ℕ) (old : List NetRecord) (d : NetRecord) : Type 0 where
   -- "one per number 1 to 256", "zeros for an unused number"
   pub each : reporting.numberOf (reporting.reported top bottom drawing D (length old)) ≡ 0
       → (k : ℕ) → k < 256 → getD (reporting.tableAfter top bottom drawing D old) k d ≡ reporting.recordOf top bottom drawing D (k + 1)

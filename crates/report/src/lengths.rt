@@ -23,7 +23,7 @@ fn entry(layout: &[u16], i: usize) -> u16
     if i < layout.len() { layout[i] } else { 0 }
 }
 
-// One more for a number.
+// One more for a number. A count of up to 600,000, more than the 522,753 entries of the largest drawing, leaves room for it.
 fn tally(counts: &mut [u32], number: u16)
     requires { ⌜ (number < length (now counts)) × (getD (now counts) number 0 ≤ 600000) ⌝ }
     ensures { λ _. ⌜ now (counts .exit) ≡ tallied (now (counts .entry)) number ⌝ }
