@@ -1,20 +1,18 @@
 -- The row check's answer in each of its cases, and what an answer says of the rows. Assumes nothing.
 use Prim.Native.Nat.{ℕ, zero, suc, _≤_, _<_, min}
 use mathlib.Core.Path.{_≡_, refl, sym, ap, _∙_}
-use mathlib.Core.Bool.{Bool, true, false, not, _||_}
+use mathlib.Core.Bool.{true, false, _||_}
 use mathlib.Core.Logic.{_≢_}
 use mathlib.Core.List.{List}
 use native.Mathlib.Omega.{arith}
-use lib.Dec.{eqb, ltb}
+use lib.Dec.{eqb}
 use lib.ListN.{length}
 use Rattle.grid.specs.declared.RowCheck.{RowCheck}
 use Rattle.grid.specs.declared.RowCheck.the-variants.{Fit, Refused}
-use Rattle.grid.specs.declared.Family.{Family}
-use Rattle.grid.specs.declared.Family.the-variants.{TwoPin, ManyPin}
 use Rattle.grid.specs.declared.Size.{Size}
 use Rattle.grid.specs.declared.DensityCount.{DensityCount}
 use Rattle.grid.specs.declared.DensityCount.the-variants as dc
-use Rattle.grid.specs.Channel.{pick, over, count, pins, pinsWithin, family, density, rowsRefused}
+use Rattle.grid.specs.Channel.{over, pins, family, density, rowsRefused}
 use Rattle.grid.specs.Refusals.{firstRefusal, ifAccepted}
 use Rattle.grid.specs.Answers.{numberOf, noSize, sizeOf, checkOf, countNumber, countDensity, countOf, refusedWithin, acceptedSize, rowCheck, densityCount}
 use Rattle.grid.specs.Working.{someTo}
@@ -82,16 +80,6 @@ module _ (top bottom : List ℕ) (most : ℕ) where
         pub case-0 : someTo (λ v. eqb (pins top bottom v) 1) 256 ≡ false → refusedWithin top bottom most ≡ 0
         unfolding rowsRefused
         case-0 h = simp (eq-eqb (length top) (length bottom) e, le-ltb (min most 256) (length top) l, o, h)
-
--- the family, by whether a net has more than two pins
-pub family-by : (top bottom : List ℕ) (q : Bool) → q ≡ someTo (λ v. ltb 2 (pins top bottom v)) 256 → (f : Family) → f ≡ pick q ManyPin TwoPin
-    → f ≡ family top bottom
-unfolding family pinsWithin
-family-by top bottom q e f d = d ∙ ap (λ (b : Bool). pick b ManyPin TwoPin) e ∙ go (eqb (count (λ v. ltb 2 (pins top bottom v)) 256) 0)
-  where
-    go : (b : Bool) → pick (not b) ManyPin TwoPin ≡ pick b TwoPin ManyPin
-    go true = refl
-    go false = refl
 
 -- NUMBER AND FIGURES
 

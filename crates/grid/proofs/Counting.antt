@@ -82,7 +82,7 @@ zeros (suc t) (suc j) = zeros t j
 -- SUMS OVER 1 TO k
 
 -- each term is at most the sum
-sum-term : (f : ℕ → ℕ) (k v : ℕ) → 1 ≤ v → v ≤ k → f v ≤ sum f k
+pub sum-term : (f : ℕ → ℕ) (k v : ℕ) → 1 ≤ v → v ≤ k → f v ≤ sum f k
 unfolding sum
 sum-term f zero v p q = absurd (omega arith)
 sum-term f (suc k) v p q = go (ℕ-discrete v (suc k)) (λ r. sum-term f k v p r)

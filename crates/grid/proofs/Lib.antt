@@ -12,6 +12,7 @@ pub mod Drawings
 pub mod Scanning
 pub mod Tables
 pub mod OpenNets
+pub mod FamilyTests
 pub mod Answers
 pub mod Views
 -- the document's cases, computed

@@ -10,7 +10,7 @@ use native.Mathlib.Decide.{decLt, ℕ-discrete}
 use lib.Dec.{T, eqb, ltb, leb}
 use lib.ListN.{length, getD}
 use Rattle.grid.specs.declared.Family.{Family}
-use Rattle.grid.specs.declared.Family.the-variants.{TwoPin, ManyPin}
+use Rattle.grid.specs.declared.Family.the-variants.{TwoPin, ThreePin, ManyPin}
 use Rattle.grid.specs.Channel.{pick, bit, sum, count, left, right, isOpen, openAt, largest, density, family, tracksOf, tracks}
 use Rattle.grid.specs.Nets.{isPinned, firstColumn, lastColumn, table}
 use Rattle.grid.specs.Working.{Rows, netsOn}
@@ -20,7 +20,7 @@ use Rattle.grid.proofs.Rows.{before, density-most}
 use Rattle.grid.proofs.Nets.{open-columns, first-last, first-pinned, last-pinned, no-last}
 use Rattle.grid.proofs.Sums.{sum-same, sum-both, count-le}
 use Rattle.grid.proofs.Scanning.{none-over}
-use Rattle.grid.proofs.Tables.{table-at, table-none}
+use Rattle.grid.proofs.Tables.{at-net, table-none}
 
 -- ONE NET
 
@@ -89,6 +89,7 @@ tracks-small top bottom = go (family top bottom)
   where
     go : (f : Family) → tracksOf f (density top bottom) ≤ 511
     go TwoPin = omega (arith, density-small top bottom)
+    go ThreePin = omega (arith, density-small top bottom)
     go ManyPin = omega (arith, density-small top bottom)
 
 -- one gap more
@@ -113,10 +114,6 @@ module _ (top bottom first last : List ℕ) (rows : Rows top bottom) (ef : first
   abbrev on : List ℕ → ℕ → ℕ
   on columns v = bit (eqb (getD columns v 0) (suc c))
 
-  -- what stands in a table of the nets
-  column-at : (f : ℕ → ℕ) (columns : List ℕ) → columns ≡ table f → (v : ℕ) → 1 ≤ v → v ≤ 256 → getD columns v 0 ≡ f v
-  column-at f columns e v a b = ap (λ (l : List ℕ). getD l v 0) e ∙ table-at f v a b
-
   -- all nets with column c + 1 in a table have a pin there
   all-on : (f : ℕ → ℕ) (columns : List ℕ) → columns ≡ table f → ((v : ℕ) → v ≢ getD top c 0 → v ≢ getD bottom c 0 → f v ≢ suc c)
       → sum (on columns) 256 ≡ netsOn columns (suc c) (getD top c 0) (getD bottom c 0)
@@ -124,7 +121,7 @@ module _ (top bottom first last : List ℕ) (rows : Rows top bottom) (ef : first
       sum-both (on columns) (getD top c 0) (getD bottom c 0) 256
       (rw (ne-eqb (getD columns 0 0) (suc c) (λ y. let z = ap (λ (l : List ℕ). getD l 0 0) e ∙ table-none f in let u : ⊥ = omega arith in u)))
       (none-over top c (rows .above)) (none-over bottom c (rows .below))
-      (λ v a b m n. rw (ne-eqb (getD columns v 0) (suc c) (λ y. h v m n (sym (column-at f columns e v a b) ∙ y))))
+      (λ v a b m n. rw (ne-eqb (getD columns v 0) (suc c) (λ y. h v m n (sym (at-net f columns e v a b) ∙ y))))
 
   one-net : (v : ℕ) → 1 ≤ v → v ≤ 256 → bit (isOpen top bottom (suc c) v) + on last v ≡ bit (isOpen top bottom c v) + on first v
   unfolding firstColumn lastColumn
@@ -133,8 +130,8 @@ module _ (top bottom first last : List ℕ) (rows : Rows top bottom) (ef : first
       let x = ap bit (open-columns top bottom v n (rows .same) (suc c)) in
       let y = ap bit (open-columns top bottom v n (rows .same) c) in
       let t = turn (firstColumn top bottom v) (lastColumn top bottom v) c (no-last top bottom v n (length top)) (first-last top bottom v (length top)) in
-      let o = ap (λ (z : ℕ). bit (eqb z (suc c))) (column-at (firstColumn top bottom) first ef v a b) in
-      let d = ap (λ (z : ℕ). bit (eqb z (suc c))) (column-at (lastColumn top bottom) last el v a b) in
+      let o = ap (λ (z : ℕ). bit (eqb z (suc c))) (at-net (firstColumn top bottom) first ef v a b) in
+      let d = ap (λ (z : ℕ). bit (eqb z (suc c))) (at-net (lastColumn top bottom) last el v a b) in
       omega arith
 
   -- the open nets right of column c + 1 and those that end in it are the open nets left of it and those that start in it

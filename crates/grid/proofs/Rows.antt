@@ -1,9 +1,9 @@
 -- What it says of rows that they are not refused; families and tracks; the pins of a net left and right of a gap; the density as a bound of the open nets.
 -- Assumes nothing.
-use Prim.Native.Nat.{ℕ, zero, suc, _+_, _*_, _-_, _≤_, _<_, max}
-use mathlib.Core.Path.{_≡_, refl, ap}
+use Prim.Native.Nat.{ℕ, zero, suc, _+_, _*_, _-_, _/_, _≤_, _<_, max}
+use mathlib.Core.Path.{_≡_, refl, sym, ap, subst}
 use mathlib.Core.Logic.{_⊎_, inl, inr, _≢_, ⊎-elim}
-use mathlib.Core.Bool.{Bool, true, false, not, _||_}
+use mathlib.Core.Bool.{Bool, true, false, not, _&&_, _||_}
 use mathlib.Core.List.{List, [], _∷_}
 use native.Mathlib.Omega.{arith}
 use native.Mathlib.Decide.{decLt, ℕ-discrete}
@@ -11,11 +11,11 @@ use lib.Dec.{eqb, ltb}
 use lib.ListN.{length, getD, take, drop, length-take, drop-of-length-le}
 use lib.Seq.{getD-take, getD-drop}
 use Rattle.grid.specs.declared.Family.{Family}
-use Rattle.grid.specs.declared.Family.the-variants.{TwoPin, ManyPin}
+use Rattle.grid.specs.declared.Family.the-variants.{TwoPin, ThreePin, ManyPin}
 use Rattle.grid.specs.Channel.{pick, bit, times, over, sum, count, pins, left, right, isOpen, openAt, largest, density}
-use Rattle.grid.specs.Channel.{pinsWithin, family, tracksOf, tracks, rowsRefused}
+use Rattle.grid.specs.Channel.{pinsWithin, firstTwoAt, firstTwoTo, family, tracksOf, tracks, rowsRefused}
 use Rattle.grid.proofs.Tests.{eqBit, eqb-diff, eqb-true, eqb-false, ltb-true, ltb-false, lt-ltb, le-ltb}
-use Rattle.grid.proofs.Tests.{not-false, and-true, and-none, or-false, pick-past}
+use Rattle.grid.proofs.Tests.{not-true, not-false, and-true, and-none, or-false, pick-past, eq-eqb, ne-eqb, not-both}
 use Rattle.grid.proofs.Counting.{times-take, times-cut, times-at, count-none, sum-zero}
 
 -- ACCEPTED ROWS
@@ -89,19 +89,54 @@ within-fit top bottom fit k e v p =
     ltb-false k (pins top bottom v)
     (every-net top bottom (ltb k) (fit .small) (le-ltb k 0 (omega arith)) (eqb-true (count (λ u. ltb k (pins top bottom u)) 256) 0 e) v p)
 
--- in a channel of two-pin nets, none has more
-pub two-fit : (top bottom : List ℕ) → RowsFit top bottom → family top bottom ≡ TwoPin → (v : ℕ) → 1 ≤ v → pins top bottom v ≤ 2
-unfolding family
-two-fit top bottom fit e = within-fit top bottom fit 2 (two (pinsWithin top bottom 2) e)
+-- what the tests of the pins say of each family
+family-tests : (two three : Bool) (f : Family) → pick two TwoPin (pick three ThreePin ManyPin) ≡ f
+    → ((f ≡ TwoPin → two ≡ true) × (f ≡ ThreePin → three ≡ true))
+family-tests true three f e = (λ i. refl, λ i. absurd (let z : _≡_ {A = ℕ} 0 1 = cc in omega arith))
+family-tests false true f e = (λ i. absurd (let z : _≡_ {A = ℕ} 0 1 = cc in omega arith), λ i. refl)
+family-tests false false f e = (λ i. absurd (let z : _≡_ {A = ℕ} 0 1 = cc in omega arith), λ i. absurd (let z : _≡_ {A = ℕ} 0 1 = cc in omega arith))
+
+-- a test of the columns 1 to n that fails fails in each
+none-to : (top bottom : List ℕ) (n c : ℕ) → firstTwoTo top bottom n ≡ false → c < n → firstTwoAt top bottom c ≡ false
+unfolding firstTwoTo
+none-to top bottom zero c e p = absurd (omega arith)
+none-to top bottom (suc n) c e p = go (ℕ-discrete c n) (or-false (firstTwoTo top bottom n) (firstTwoAt top bottom n) e) (λ f q. none-to top bottom n c f q)
   where
-    two : (q : Bool) → pick q TwoPin ManyPin ≡ TwoPin → q ≡ true
-    two true e = refl
-    two false e = absurd (let z : _≡_ {A = ℕ} 0 1 = cc in omega arith)
+    go : Dec (c ≡ n) → (firstTwoTo top bottom n ≡ false) × (firstTwoAt top bottom n ≡ false)
+        → (firstTwoTo top bottom n ≡ false → c < n → firstTwoAt top bottom c ≡ false) → firstTwoAt top bottom c ≡ false
+    go (yes i) o ih = subst (λ (z : ℕ). firstTwoAt top bottom z ≡ false) (sym i) (o .1)
+    go (no i) o ih = ih (o .0) (omega arith)
+
+module _ (top bottom : List ℕ) (fit : RowsFit top bottom) where
+  -- in a channel of two-pin nets, none has more
+  pub two-fit : family top bottom ≡ TwoPin → (v : ℕ) → 1 ≤ v → pins top bottom v ≤ 2
+  unfolding family
+  two-fit e = within-fit top bottom fit 2 (family-tests (pinsWithin top bottom 2) (pinsWithin top bottom 3 && not (firstTwoTo top bottom (length top))) (family top bottom) refl .0 e)
+
+  module _ (e : family top bottom ≡ ThreePin) where
+    three-tests : (pinsWithin top bottom 3 ≡ true) × (not (firstTwoTo top bottom (length top)) ≡ true)
+    unfolding family
+    three-tests =
+        and-true (pinsWithin top bottom 3) (not (firstTwoTo top bottom (length top)))
+        (family-tests (pinsWithin top bottom 2) (pinsWithin top bottom 3 && not (firstTwoTo top bottom (length top))) (family top bottom) refl .1 e)
+
+    -- in a three-pin channel, none has more than three
+    pub three-fit : (v : ℕ) → 1 ≤ v → pins top bottom v ≤ 3
+    three-fit = within-fit top bottom fit 3 (three-tests .0)
+
+    -- and none of three pins has its first two in one column
+    pub three-apart : (c : ℕ) → c < length top → firstTwoAt top bottom c ≡ false
+    three-apart c p = none-to top bottom (length top) c (not-true (firstTwoTo top bottom (length top)) (three-tests .1)) p
 
 -- "its tracks are d where each net has two pins"
 pub two-density : (top bottom : List ℕ) → family top bottom ≡ TwoPin → tracks top bottom ≡ density top bottom
 unfolding tracks
 two-density top bottom e = ap (λ (f : Family). tracksOf f (density top bottom)) e
+
+-- document 02, Job 3: "3d/2 tracks rounded down"
+pub three-density : (top bottom : List ℕ) → family top bottom ≡ ThreePin → tracks top bottom ≡ 3 * density top bottom / 2
+unfolding tracks
+three-density top bottom e = ap (λ (f : Family). tracksOf f (density top bottom)) e
 
 -- "else 2d - 1"
 pub many-density : (top bottom : List ℕ) → family top bottom ≡ ManyPin → tracks top bottom ≡ 2 * density top bottom - 1
@@ -184,6 +219,24 @@ module _ (top bottom : List ℕ) (N k : ℕ) (n : N ≢ 0) where
   -- and left of the gap after it
   pub pin-left : HasPin top bottom N k → 0 < left top bottom (suc k) N
   pin-left h = omega (arith, left-suc, pin-bits h)
+
+-- in a three-pin channel a net with both pins in one column has none after it
+pub three-last : (top bottom : List ℕ) → RowsFit top bottom → family top bottom ≡ ThreePin → (c : ℕ) → c < length top → getD top c 0 ≢ 0
+    → getD top c 0 ≡ getD bottom c 0 → right top bottom (suc c) (getD top c 0) ≡ 0
+unfolding firstTwoAt
+three-last top bottom fit e c p n i = go (ℕ-discrete (right top bottom (suc c) v) 0)
+  where
+    v : ℕ
+    v = getD top c 0
+
+    two : bit (eqb (getD top c 0) v) + bit (eqb (getD bottom c 0) v) ≡ 2
+    two = rw (eq-eqb (getD top c 0) v refl, eq-eqb (getD bottom c 0) v (sym i)) refl
+
+    go : Dec (right top bottom (suc c) v ≡ 0) → right top bottom (suc c) v ≡ 0
+    go (yes z) = z
+    go (no z) =
+        let q : (pins top bottom v ≡ 3) × (left top bottom c v ≡ 0) = omega (arith, three-fit top bottom fit e v (omega arith), left-right top bottom v c, right-suc top bottom v c n, two) in
+        absurd (not-both (rw (ne-eqb v 0 n, eq-eqb v (getD bottom c 0) i, eq-eqb (pins top bottom v) 3 (q .0), eq-eqb (left top bottom c v) 0 (q .1)) refl) (three-apart top bottom fit e c p))
 
 -- a pin's net is one of 1 to 256
 pub pin-small : (top bottom : List ℕ) → RowsFit top bottom → (N k : ℕ) → N ≢ 0 → HasPin top bottom N k → N ≤ 256

@@ -40,6 +40,10 @@ unfolding table
 table-at f zero a b = absurd (omega arith)
 table-at f (suc v) a b = from-at f 1 256 v (omega arith) ∙ ap f (omega arith)
 
+-- so in a list that is a table
+pub at-net : (f : ℕ → ℕ) (l : List ℕ) → l ≡ table f → (v : ℕ) → 1 ≤ v → v ≤ 256 → getD l v 0 ≡ f v
+at-net f l e v a b = ap (λ (m : List ℕ). getD m v 0) e ∙ table-at f v a b
+
 -- at 0 stands 0
 pub table-none : (f : ℕ → ℕ) → getD (table f) 0 0 ≡ 0
 unfolding table
@@ -57,7 +61,7 @@ cleared f l h = ext-getD 0 (set l 0 0) (table f) (simp length-set (h .size ∙ s
 
 -- a test over a table is the test over the figures
 pub table-some : (q : ℕ → Bool) (f : ℕ → ℕ) (l : List ℕ) → l ≡ table f → someTo (λ v. q (getD l v 0)) 256 ≡ someTo (λ v. q (f v)) 256
-table-some q f l e = some-same (λ v. q (getD l v 0)) (λ v. q (f v)) 256 (λ v a b. ap q (ap (λ (m : List ℕ). getD m v 0) e ∙ table-at f v a b))
+table-some q f l e = some-same (λ v. q (getD l v 0)) (λ v. q (f v)) 256 (λ v a b. ap q (at-net f l e v a b))
 
 -- zeros are 257 places
 pub zero-table-length : (l : List ℕ) → l ≡ zeroTable → length l ≡ 257

@@ -1,13 +1,13 @@
 -- Document 01, "Channel and grid": rows, pins, density, families of channels, tracks; and the refusals of the rows, 4 to 7.
 -- A channel is two lists of numbers, top and bottom; 0 is no pin. The document counts columns from 1: `take c` are the columns 1 to c, `drop c` those
 -- after c, and gap c lies between them.
-use Prim.Native.Nat.{ℕ, zero, suc, _+_, _*_, _-_, max}
+use Prim.Native.Nat.{ℕ, zero, suc, _+_, _*_, _-_, _/_, max}
 use mathlib.Core.Bool.{Bool, true, false, not, _&&_, _||_}
 use mathlib.Core.List.{List, [], _∷_}
 use lib.Dec.{eqb, ltb}
-use lib.ListN.{length, take, drop}
+use lib.ListN.{length, take, drop, getD}
 use Rattle.grid.specs.declared.Family.{Family}
-use Rattle.grid.specs.declared.Family.the-variants.{TwoPin, ManyPin}
+use Rattle.grid.specs.declared.Family.the-variants.{TwoPin, ThreePin, ManyPin}
 
 -- the one of two that a test chooses
 abbrev pub pick {ℓ} : {A : Type ℓ} → Bool → A → A → A
@@ -38,9 +38,11 @@ unfoldable pub over : List ℕ → Bool
 over [] = false
 over (x ∷ xs) = ltb 256 x || over xs
 
--- "its tracks are d where each net has two pins, else 2d - 1": those of a channel of density d, by its family
+-- "its tracks are d where each net has two pins, else 2d - 1"; document 02, Job 3, puts between them "3d/2 tracks rounded down": those of a channel of
+-- density d, by its family
 abbrev pub tracksOf : Family → (d : ℕ) → ℕ
 tracksOf TwoPin d = d
+tracksOf ThreePin d = 3 * d / 2
 tracksOf ManyPin d = 2 * d - 1
 
 module _ (top bottom : List ℕ) where
@@ -77,11 +79,23 @@ module _ (top bottom : List ℕ) where
   unfoldable pub pinsWithin : ℕ → Bool
   pinsWithin k = eqb (count (λ v. ltb k (pins v)) 256) 0
 
-  -- "Channels of two-pin nets": "each net has two pins"; or "Channels with a net of three or more pins"
-  unfoldable pub family : Family
-  family = pick (pinsWithin 2) TwoPin ManyPin
+  -- a net of three pins has "its first two pins in one column", column c + 1
+  unfoldable pub firstTwoAt : ℕ → Bool
+  firstTwoAt c =
+      let v = getD top c 0 in
+      not (eqb v 0) && (eqb v (getD bottom c 0) && (eqb (pins v) 3 && eqb (left c v) 0))
 
-  -- "its tracks are d where each net has two pins, else 2d - 1"
+  -- in one of the columns 1 to c
+  unfoldable pub firstTwoTo : ℕ → Bool
+  firstTwoTo zero = false
+  firstTwoTo (suc c) = firstTwoTo c || firstTwoAt c
+
+  -- "Channels of two-pin nets": "each net has two pins"; document 02, Job 3: "channels whose largest net has three pins, none of these nets having its first
+  -- two pins in one column"; and "the other channels with a net of three or more pins"
+  unfoldable pub family : Family
+  family = pick (pinsWithin 2) TwoPin (pick (pinsWithin 3 && not (firstTwoTo (length top))) ThreePin ManyPin)
+
+  -- the tracks of the channel, by its family and its density
   unfoldable pub tracks : ℕ
   tracks = tracksOf family density
 

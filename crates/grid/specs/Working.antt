@@ -1,7 +1,7 @@
 -- What the private functions of the row check promise each other. No promise of a public call rests on these.
 use Prim.Native.Nat.{ℕ, _+_, _≤_}
 use mathlib.Core.Path.{_≡_}
-use mathlib.Core.Bool.{Bool, false, not}
+use mathlib.Core.Bool.{Bool, false, not, _&&_}
 use mathlib.Core.List.{List}
 use lib.Dec.{eqb}
 use lib.ListN.{length, getD}
@@ -29,6 +29,10 @@ pub record Filled (top bottom first last counts : List ℕ) : Type 0 where
 -- one of the numbers 1 to k passes a test
 abbrev pub someTo : (ℕ → Bool) → ℕ → Bool
 someTo p k = not (eqb (count p k) 0)
+
+-- by the tables of the nets' first columns and pins, column c has the first two pins of a net of three: its top pin is p, its bottom pin q
+abbrev pub firstTwoBy : (first counts : List ℕ) (c p q : ℕ) → Bool
+firstTwoBy first counts c p q = not (eqb p 0) && (eqb p q && (eqb (getD counts p 0) 3 && eqb (getD first p 0) c))
 
 -- a figure x of net p and y of net q, the same net once
 abbrev pub ofBoth : ℕ → ℕ → ℕ → ℕ → ℕ

@@ -1,11 +1,11 @@
 // The channel and its grid: the row check, the facts of each net, the density, one column of a layout.
+mod families;
 mod gaps;
 mod scan;
 mod spans;
 
 ghost use mathlib.Core.Path.{_≡_};
-ghost use Rattle.grid.specs.declared.Family.the-variants.{TwoPin, ManyPin};
-ghost use Rattle.grid.specs.Channel.{pick, over, pins as pinsOf};
+ghost use Rattle.grid.specs.Channel.{over, pins as pinsOf};
 ghost use Rattle.grid.specs.Nets.{firstColumn, lastColumn, table, zeroTable};
 ghost use Rattle.grid.specs.Refusals.{ifAccepted};
 ghost use Rattle.grid.specs.Channel.{rowsRefused, density as densityOf};
@@ -13,9 +13,11 @@ ghost use Rattle.grid.specs.Answers.{numberOf, sizeOf, noSize, countNumb
 ghost use Rattle.grid.specs.Working.{Filled};
 ghost use Rattle.grid.specs.View.{noPart, columnPart, columnView};
 
-// The families of channels, each with a sweep of its own: each net has two pins, or one has three or more.
+// The families of channels, each with a sweep of its own: each net has two pins; the largest has three, and none of these has its first two pins in one
+// column; or neither.
 pub enum Family {
     TwoPin,
+    ThreePin,
     ManyPin,
 }
 
@@ -72,17 +74,6 @@ pub fn zeros() -> [u16; 257]
     [0u16; 257]
 }
 
-// The family of a channel, by whether a net has three or more pins.
-fn family_of(three: bool) -> Family
-    ensures { λ r. ⌜ r ≡ pick three ManyPin TwoPin ⌝ }
-{
-    if three {
-        Family::ManyPin
-    } else {
-        Family::TwoPin
-    }
-}
-
 // The row check, with three tables of zeros for its work. Of accepted rows they hold the facts of each net after it.
 fn checked(
     top: &[u16],
@@ -114,7 +105,7 @@ fn checked(
     RowCheck::Fit(Size {
         columns: top.len(),
         density: gaps::largest_count(top, bottom, first, last),
-        family: family_of(tests.three),
+        family: families::family_of(top, bottom, first, pins, tests.three, tests.four),
     })
 }
 

@@ -10,7 +10,7 @@ use Rattle.grid.specs.Channel.{over, pins as pinsOf}
 use Rattle.grid.specs.Working.{Rows, someTo}
 use Rattle.grid.proofs.Tests.{or-false}
 use Rattle.grid.proofs.Tables.{table-length, table-some}
-use Rattle.grid.proofs.Answers.{refused-with, fit-by, case-4, case-5, case-6, case-7, case-0, family-by}
+use Rattle.grid.proofs.Answers.{refused-with, fit-by, case-4, case-5, case-6, case-7, case-0}
 use native.Mathlib.Omega.{arith}
 use borrow.Author.Needs.{needs}
 use Rattle.grid.proofs.checked.Statement.{statement}
@@ -77,7 +77,14 @@ largest-count-requires : tie.Need-largest-count-requires
 largest-count-requires c κs = (rows (c .before .before .before .before .before .before .before .before .before .before .before .before .before .before .before), c .before .before .before .before .before .before .before .before .before .before .before .fill .ensures .firsts, c .before .before .before .before .before .before .before .before .before .before .before .fill .ensures .lasts)
 
 family-of-requires : tie.Need-family-of-requires
-family-of-requires c κs = search needs
+family-of-requires c κs =
+    let top = c .before .before .before .before .before .before .before .before .before .before .before .before .before .before .before .before .before .before .before .before .before .before .before .before .before .before .before .before .before .args .top .now in
+    let bottom = c .before .before .before .before .before .before .before .before .before .before .before .before .before .before .before .before .before .before .before .before .before .before .before .before .before .before .before .before .before .args .bottom .now in
+    let filled = c .before .before .before .before .before .before .before .before .before .before .before .before .before .before .fill .ensures in
+    let tests = c .before .before .before .before .before .before .tests .ensures in (
+      (rows (c .before .before .before .before .before .before .before .before .before .before .before .before .before .before .before .before .before .before), filled .firsts, filled .pinned),
+      (tests .1 .0 ∙ table-some (ltb 2) (pinsOf top bottom) _ (filled .pinned), tests .1 .1 ∙ table-some (ltb 3) (pinsOf top bottom) _ (filled .pinned)),
+    )
 
 same-length-4 : tie.Need-same-length-4
 same-length-4 c = search needs
@@ -90,12 +97,11 @@ same-length-6 c = search needs
 
 returns-5 : tie.Need-returns-5
 returns-5 c =
-    let top = c .before .before .before .before .before .before .before .before .before .before .before .before .before .before .before .before .before .before .before .before .before .before .before .before .before .before .before .before .args .top .now in
-    let bottom = c .before .before .before .before .before .before .before .before .before .before .before .before .before .before .before .before .before .before .before .before .before .before .before .before .before .before .before .before .args .bottom .now in
-    let m = c .before .before .before .before .before .tests .ensures .1 ∙ table-some (ltb 2) (pinsOf top bottom) _ (c .before .before .before .before .before .before .before .before .before .before .before .before .before .fill .ensures .pinned) in
-    let z = case-0 top bottom (c .before .before .before .before .before .before .before .before .before .before .before .before .before .before .before .before .before .before .before .before .before .before .before .before .before .before .before .before .args .most) (c .before .before .before .before .before .before .before .before .before .before .before .before .before .before .before .before .before .before .before .before .before .before .if1 .left) (omega (arith, c .before .before .before .before .before .before .before .before .before .before .before .before .before .before .before .before .before .before .before .before .if2 .left, c .before .before .before .before .before .before .before .before .before .before .before .before .before .before .before .before .before .before .before .before .before .limit .ensures)) (none-over (c .before .before .before .before .before .before .before .before .before .before .before .before .before .before .before .before .before)) (number (c .before .before .before .before .before) false (c .before .before .before .before .if4 .left)) in (
-      ap₂ (λ (d : ℕ) (f : Family). Fit (record { columns = length top; density = d; family = f })) (c .before .largest-count .ensures) (family-by top bottom (c .before .before .before .before .before .tests .result .three) m (c .family-of .result) (c .family-of .ensures)) ∙ fit-by top bottom (c .before .before .before .before .before .before .before .before .before .before .before .before .before .before .before .before .before .before .before .before .before .before .before .before .before .before .before .before .args .most) z,
-      λ e. c .before .before .before .before .before .before .before .before .before .before .before .before .before .fill .ensures,
+    let top = c .before .before .before .before .before .before .before .before .before .before .before .before .before .before .before .before .before .before .before .before .before .before .before .before .before .before .before .before .before .before .args .top .now in
+    let bottom = c .before .before .before .before .before .before .before .before .before .before .before .before .before .before .before .before .before .before .before .before .before .before .before .before .before .before .before .before .before .before .args .bottom .now in
+    let z = case-0 top bottom (c .before .before .before .before .before .before .before .before .before .before .before .before .before .before .before .before .before .before .before .before .before .before .before .before .before .before .before .before .before .before .args .most) (c .before .before .before .before .before .before .before .before .before .before .before .before .before .before .before .before .before .before .before .before .before .before .before .before .if1 .left) (omega (arith, c .before .before .before .before .before .before .before .before .before .before .before .before .before .before .before .before .before .before .before .before .before .before .if2 .left, c .before .before .before .before .before .before .before .before .before .before .before .before .before .before .before .before .before .before .before .before .before .before .before .limit .ensures)) (none-over (c .before .before .before .before .before .before .before .before .before .before .before .before .before .before .before .before .before .before .before)) (number (c .before .before .before .before .before .before .before) false (c .before .before .before .before .before .before .if4 .left)) in (
+      ap₂ (λ (d : ℕ) (f : Family). Fit (record { columns = length top; density = d; family = f })) (c .before .before .before .largest-count .ensures) (c .family-of .ensures) ∙ fit-by top bottom (c .before .before .before .before .before .before .before .before .before .before .before .before .before .before .before .before .before .before .before .before .before .before .before .before .before .before .before .before .before .before .args .most) z,
+      λ e. c .before .before .before .before .before .before .before .before .before .before .before .before .before .before .before .fill .ensures,
     )
 
 pub checked-spec : {M : Type 1} → statement M

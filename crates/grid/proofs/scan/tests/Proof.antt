@@ -12,15 +12,15 @@ use Rattle.grid.proofs.scan.tests.Statement.{statement}
 use Rattle.grid.proofs.scan.tests.Tie as tie
 
 abbrev Inv-loop : tie.InvT-loop
-Inv-loop pins single₀ three₀ v₀ single three v = (v ≤ 256) × (single ≡ someTo (λ u. eqb (getD pins u 0) 1) v) × (three ≡ someTo (λ u. ltb 2 (getD pins u 0)) v)
+Inv-loop pins single₀ three₀ four₀ v₀ single three four v = (v ≤ 256) × (single ≡ someTo (λ u. eqb (getD pins u 0) 1) v) × (three ≡ someTo (λ u. ltb 2 (getD pins u 0)) v) × (four ≡ someTo (λ u. ltb 3 (getD pins u 0)) v)
 
 abbrev μ-loop : tie.MeasureT-loop
-μ-loop pins single₀ three₀ v₀ single three v = 256 - v
+μ-loop pins single₀ three₀ four₀ v₀ single three four v = 256 - v
 
 loop-holds : tie.Need-loop-holds Inv-loop μ-loop
 loop-holds c =
     let l = c .args .pins .now in
-    (omega arith, sym (some-none (λ u. eqb (getD l u 0) 1)), sym (some-none (λ u. ltb 2 (getD l u 0))))
+    (omega arith, sym (some-none (λ u. eqb (getD l u 0) 1)), sym (some-none (λ u. ltb 2 (getD l u 0))), sym (some-none (λ u. ltb 3 (getD l u 0))))
 
 add-v : tie.Need-add-v Inv-loop μ-loop
 add-v c = search needs
@@ -42,14 +42,17 @@ loop-again c =
       omega arith,
       ap (λ (b : Bool). b || eqb (getD l (v + 1) 0) 1) (h .loop .inv .1) ∙ sym (some-more (λ u. eqb (getD l u 0) 1) v),
       ap (λ (b : Bool). b || ltb 2 (getD l (v + 1) 0)) (h .loop .inv .2) ∙ sym (some-more (λ u. ltb 2 (getD l u 0)) v),
+      ap (λ (b : Bool). b || ltb 3 (getD l (v + 1) 0)) (h .loop .inv .3) ∙ sym (some-more (λ u. ltb 3 (getD l u 0)) v),
     )
 
 returns : tie.Need-returns Inv-loop μ-loop
 returns c =
     let h = c .before in
     let l = h .before .args .pins .now in
-    let e : h .loop .v ≡ 256 = omega arith in
-    (h .loop .inv .1 ∙ ap (someTo (λ u. eqb (getD l u 0) 1)) e, h .loop .inv .2 ∙ ap (someTo (λ u. ltb 2 (getD l u 0))) e)
+    let e : h .loop .v ≡ 256 = omega arith in (
+      h .loop .inv .1 ∙ ap (someTo (λ u. eqb (getD l u 0) 1)) e,
+      (h .loop .inv .2 ∙ ap (someTo (λ u. ltb 2 (getD l u 0))) e, h .loop .inv .3 ∙ ap (someTo (λ u. ltb 3 (getD l u 0))) e),
+    )
 
 pub tests-spec : {M : Type 1} → statement M
 tests-spec = tie.close (tie.spec Inv-loop μ-loop loop-holds add-v mul-k shared-slice-read-k loop-less loop-again returns)
