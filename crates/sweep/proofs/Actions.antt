@@ -4,3 +4,4 @@ pub mod Free
 pub mod Ends
 pub mod Continues
 pub mod Joins
+pub mod Reduces

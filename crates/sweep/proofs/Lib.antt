@@ -4,6 +4,7 @@
 -- Gaps     the invariant of the tracks in a gap, and what an action has to show besides to keep it
 -- Actions  each action by itself is good: sound, and it keeps the invariant
 -- Rules    the free tracks that the rules ask for are there, and whatever they choose is good; the pairs of kinds by number
+-- ThreePin the sweep of three-pin channels: its invariant, and that its moves are good
 -- Drawing  the invariant in every gap, the columns 1 to n, the columns added
 -- Solved   the theorems
 pub mod Tracks
@@ -11,5 +12,6 @@ pub mod Columns
 pub mod Gaps
 pub mod Actions
 pub mod Rules
+pub mod ThreePin
 pub mod Drawing
 pub mod Solved

@@ -1,19 +1,18 @@
--- Every drawing is a solution. For every accepted channel and enough tracks the sweep keeps its invariant in each gap, finds the free tracks that its rules
--- ask for, and its layout is a solution on these tracks with the width that is reported.
+-- Every drawing is a solution. For every accepted channel and enough tracks the sweep keeps its invariant in each gap, and its layout is a solution on these tracks with the width that is reported.
 use Prim.Native.Nat.{ℕ, _+_, _*_, _-_, _≤_, _/_}
 use mathlib.Core.Path.{_≡_}
 use mathlib.Core.List.{List}
 use native.Mathlib.Omega.{arith}
 use lib.ListN.{length}
-use Rattle.grid.specs.declared.Family.the-variants.{TwoPin, ManyPin}
+use Rattle.grid.specs.declared.Family.the-variants.{TwoPin, ThreePin, ManyPin}
 use Rattle.grid.specs.Channel.{density, family, tracks}
 use Rattle.grid.specs.Grid.{Solution}
-use Rattle.grid.proofs.Rows.{RowsFit, two-density, many-density}
+use Rattle.grid.proofs.Rows.{RowsFit, two-density, three-density, many-density}
 use Rattle.sweep.specs.Drawing.{gap, width, layout}
 use Rattle.sweep.proofs.Gaps.Held.{Enough, Held, tracks-enough}
 use Rattle.sweep.proofs.Drawing.Sweep as sweep
 use Rattle.sweep.proofs.Drawing.Whole.{layout-solution, layout-width}
--- THE TRACKS that are enough, and those of the channel are: "its tracks are d where each net has two pins, else 2d - 1"
+-- THE TRACKS that are enough, and those of the channel are
 pub use Rattle.sweep.proofs.Gaps.Held.{Enough, tracks-enough}
 
 module _ (t : ℕ) (top bottom : List ℕ) (fit : RowsFit top bottom) (enough : Enough t top bottom) where
@@ -38,6 +37,10 @@ module _ (top bottom : List ℕ) (fit : RowsFit top bottom) where
   -- "At most d/2, rounded down, are added", where each net has two pins
   pub added-two : family top bottom ≡ TwoPin → width (tracks top bottom) top bottom ≤ length top + density top bottom / 2
   added-two e = omega (arith, width-most (tracks top bottom) top bottom fit (tracks-enough top bottom), two-density top bottom e)
+
+  -- document 02, Job 3: "At most half the tracks, rounded down, are added as columns"
+  pub added-three : family top bottom ≡ ThreePin → width (tracks top bottom) top bottom ≤ length top + 3 * density top bottom / 2 / 2
+  added-three e = omega (arith, width-most (tracks top bottom) top bottom fit (tracks-enough top bottom), three-density top bottom e)
 
   -- "at most d - 1", where a net has three or more
   pub added-many : family top bottom ≡ ManyPin → width (tracks top bottom) top bottom ≤ length top + (density top bottom - 1)

@@ -1,4 +1,4 @@
--- The sweeps of document 01 on t tracks: the tracks in each gap, the columns, the columns added, the width and the layout.
+-- The sweeps on t tracks: the tracks and the pairs in each gap, the columns, the columns added, the width and the layout.
 use Prim.Native.Nat.{ℕ, zero, suc, _+_}
 use mathlib.Core.Bool.{Bool, true, false, not, _&&_}
 use mathlib.Core.List.{List, [], _++_}
@@ -6,12 +6,15 @@ use lib.Dec.{eqb, ltb}
 use lib.ListN.{length, getD, replicate}
 use Rattle.grid.specs.Channel
 use Rattle.grid.specs.declared.Family.{Family}
-use Rattle.grid.specs.declared.Family.the-variants.{TwoPin, ManyPin}
+use Rattle.grid.specs.declared.Family.the-variants.{TwoPin, ThreePin, ManyPin}
 use Rattle.grid.specs.Channel.{pick, count, left, right, family}
+use Rattle.grid.specs.Nets.{lastColumn}
 use Rattle.sweep.specs.declared.Action.{Action}
 use Rattle.sweep.specs.declared.Pin.{Pin}
 use Rattle.sweep.specs.declared.Free.{Free}
 use Rattle.sweep.specs.declared.Joint.{Joint}
+use Rattle.sweep.specs.declared.Double.{Double}
+use Rattle.sweep.specs.declared.Move.{Move}
 use Rattle.sweep.specs.Tracks
 use Rattle.sweep.specs.Tracks.{lowest, second, highest, many, lowestNet, clear, verticals, after}
 use Rattle.sweep.specs.Rules
@@ -20,6 +23,10 @@ use Rattle.sweep.specs.TwoPin
 use Rattle.sweep.specs.TwoPin.{chooseTwo}
 use Rattle.sweep.specs.ManyPin
 use Rattle.sweep.specs.ManyPin.{chooseMany}
+use Rattle.sweep.specs.Pairs
+use Rattle.sweep.specs.Pairs.{mate, noMates, unpair, pairUp, latestTo}
+use Rattle.sweep.specs.ThreePin
+use Rattle.sweep.specs.ThreePin.{still, chooseThree}
 
 -- "A pin starts, ends or continues its net": by whether the net has pins before the column and after it. 0 none, 1 starts, 2 continues, 3 ends
 abbrev pub kindBy : (before later : Bool) → ℕ
@@ -27,12 +34,15 @@ kindBy false later = 1
 kindBy true true = 2
 kindBy true false = 3
 
--- no pin, and no net to join
+-- no pin, no net to join, and no double net
 abbrev pub noPin : Pin
 noPin = record { net = 0; kind = 0; low = 0; high = 0; many = 0 }
 
 abbrev pub noJoint : Joint
 noJoint = record { net = 0; low = 0; second = 0; high = 0; later = false }
+
+abbrev pub noDouble : Double
+noDouble = record { net = 0; low = 0; high = 0; last = 0 }
 
 -- the two lowest free tracks
 unfoldable pub freeOf : List ℕ → Free
@@ -73,32 +83,83 @@ module _ (top bottom : List ℕ) where
       pick (eqb v 0) noJoint
       (record { net = v; low = lowest v tr; second = second v tr; high = highest v tr; later = later (suc c) v })
 
+-- here m are the mates in gap c: net v has two strands and no mate
+unfoldable pub loneDouble : (tr m : List ℕ) → ℕ → Bool
+loneDouble tr m v = not (eqb v 0) && (eqb (many v tr) 2 && eqb (mate v m) 0)
+
+module _ (top bottom : List ℕ) where
+  -- of these nets the one that ends last, and the lowest-numbered other one
+  unfoldable pub latestDouble : (tr m : List ℕ) → ℕ
+  latestDouble tr m = latestTo (lastColumn top bottom) (loneDouble tr m) 256
+
+  unfoldable pub otherDouble : (tr m : List ℕ) → ℕ
+  otherDouble tr m = lowestNet (λ v. loneDouble tr m v && not (eqb v (latestDouble tr m))) tr
+
+  -- net v as such a net (0: none)
+  unfoldable pub doubleOf : List ℕ → ℕ → Double
+  doubleOf tr v = pick (eqb v 0) noDouble (record { net = v; low = lowest v tr; high = highest v tr; last = lastColumn top bottom v })
+
+  -- the last column of net v (0: none)
+  unfoldable pub endOf : ℕ → ℕ
+  endOf v = pick (eqb v 0) 0 (lastColumn top bottom v)
+
+  -- net v if its last pin lies in column c + 1, else 0
+  unfoldable pub endingAt : ℕ → ℕ → ℕ
+  endingAt c v = pick (later top bottom (suc c) v) 0 v
+
+  -- the mates after column c + 1: a pair ends when one of its nets ends, and the column's own pair is formed
+  unfoldable pub matesAfter : ℕ → Move → List ℕ → List ℕ
+  matesAfter c x m = pairUp (x .double) (x .single) (unpair (endingAt c (getD bottom c 0)) (unpair (endingAt c (getD top c 0)) m))
+
+-- the tracks and the mates in a gap
+pub record SweepState : Type 0 where
+  pub tracks : List ℕ
+  pub mates : List ℕ
+
 -- THE SWEEP on t tracks
 module _ (t : ℕ) (top bottom : List ℕ) where
-  -- what column c + 1 does in the sweep of a family: "Channels of two-pin nets", "Channels with a net of three or more pins"
-  unfoldable pub actionOf : Family → ℕ → List ℕ → Action
-  actionOf TwoPin c tr =
+  -- what column c + 1 does in the sweep of a family: "Channels of two-pin nets", those of document 02, Job 3, "Channels with a net of three or more pins"
+  unfoldable pub moveOf : Family → ℕ → (tr m : List ℕ) → Move
+  moveOf TwoPin c tr m =
       let A = pinAt top bottom c tr (getD top c 0) in
       let B = pinAt top bottom c tr (getD bottom c 0) in
-      chooseTwo t A B (freeOf tr) (jointOf top bottom c tr (extendedNet top bottom c tr))
-  actionOf ManyPin c tr =
+      still (chooseTwo t A B (freeOf tr) (jointOf top bottom c tr (extendedNet top bottom c tr)))
+  moveOf ThreePin c tr m =
       let A = pinAt top bottom c tr (getD top c 0) in
       let B = pinAt top bottom c tr (getD bottom c 0) in
-      chooseMany t A B (freeOf tr) (jointOf top bottom c tr (netToJoin top bottom c tr)) (later top bottom (suc c) (getD top c 0))
+      let D = doubleOf top bottom tr (latestDouble top bottom tr m) in
+      let M = doubleOf top bottom tr (otherDouble top bottom tr m) in
+      chooseThree t A B (endOf top bottom (getD top c 0)) (endOf top bottom (getD bottom c 0)) (freeOf tr)
+      (jointOf top bottom c tr (extendedNet top bottom c tr)) D M
+  moveOf ManyPin c tr m =
+      let A = pinAt top bottom c tr (getD top c 0) in
+      let B = pinAt top bottom c tr (getD bottom c 0) in
+      still (chooseMany t A B (freeOf tr) (jointOf top bottom c tr (netToJoin top bottom c tr)) (later top bottom (suc c) (getD top c 0)))
 
   -- what column c + 1 does, by the channel's family
-  unfoldable pub action : ℕ → List ℕ → Action
-  action = actionOf (family top bottom)
+  unfoldable pub move : ℕ → (tr m : List ℕ) → Move
+  move = moveOf (family top bottom)
 
-  -- the tracks in gap c; in gap 0 all are free
-  unfoldable pub gap : ℕ → List ℕ
-  gap zero = replicate t 0
-  gap (suc c) = after (action c (gap c)) (gap c)
+  -- the tracks and the mates in gap c; in gap 0 all tracks are free
+  unfoldable pub state : ℕ → SweepState
+  state zero = record { tracks = replicate t 0; mates = noMates }
+  state (suc c) =
+      let s = state c in
+      let x = move c (s .tracks) (s .mates) in
+      record { tracks = after (x .action) (s .tracks); mates = matesAfter top bottom c x (s .mates) }
+
+  -- the tracks in gap c
+  abbrev pub gap : ℕ → List ℕ
+  gap c = state c .tracks
+
+  -- what column c + 1 does in the sweep
+  unfoldable pub moveAt : ℕ → Move
+  moveAt c = move c (state c .tracks) (state c .mates)
 
   -- the entries of the columns 1 to c: each column's "vertical edges from row 0 upward, then the horizontal edges leaving to the right"
   unfoldable pub drawn : ℕ → List ℕ
   drawn zero = []
-  drawn (suc c) = drawn c ++ (verticals t (action c (gap c)) ++ gap (suc c))
+  drawn (suc c) = drawn c ++ (verticals t (moveAt c .action) ++ gap (suc c))
 
 -- THE COLUMNS ADDED: here g are the tracks in the gap after column n
 -- net v still has strands there: it is extended

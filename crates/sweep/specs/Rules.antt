@@ -1,4 +1,4 @@
--- Document 01: the actions that the rules of both sweeps use.
+-- Document 01: the actions that rules of more than one sweep use.
 -- A is the column's top pin, B its bottom pin, f the two lowest free tracks, N the net of rule 2.
 use Prim.Native.Nat.{ℕ, zero, suc}
 use mathlib.Core.Bool.{Bool}

@@ -1,11 +1,9 @@
--- What the laws of actions and the code that applies one go by: each track that an action gives is free by then, it names the column's nets alone, and its
--- wires are flat. No promise of a public call rests on these.
+-- What the laws of actions and the code that applies one go by: each track that an action gives is free by then, and it names the column's
+-- nets alone. No promise of a public call rests on these.
 use Prim.Native.Nat.{ℕ, zero, suc, _≤_, _<_}
 use mathlib.Core.Path.{_≡_}
-use mathlib.Core.Logic.{_⊎_}
 use mathlib.Core.List.{List}
 use lib.ListN.{length, getD}
-use Rattle.grid.specs.declared.Segments.{Segments}
 use Rattle.sweep.specs.declared.Action.{Action}
 use Rattle.sweep.specs.Tracks.{clear, give}
 
@@ -32,16 +30,9 @@ pub data Named (P Q e v : ℕ) : Type 0 where
   bottomNet : Q ≡ v → Named P Q e v
   endedNet : v ≡ e → Named P Q e v
 
--- above row low nothing is drawn up to row start only where there is no bottom net, and above row stop nothing up to row high only where there is no middle
--- net
-pub record Flat (w : Segments) : Type 0 where
-  pub lower : (w .bottom ≡ 0) ⊎ (w .start ≤ w .low)
-  pub upper : (w .middle ≡ 0) ⊎ (w .high ≤ w .stop)
-
--- an action names no other nets, and its column is flat
+-- an action names no other nets
 pub record Plain (P Q : ℕ) (x : Action) : Type 0 where
   pub closed : Named P Q (x .ended) (x .closed)
   pub net1 : Named P Q (x .ended) (x .gift1 .net)
   pub net2 : Named P Q (x .ended) (x .gift2 .net)
   pub net3 : Named P Q (x .ended) (x .gift3 .net)
-  pub flat : Flat (x .wires)

@@ -1,5 +1,5 @@
-// The sweeps of document 01, as definitions and laws: specs/ has the rules and the drawing, proofs/ that every drawing is a solution. No code but the structs
-// that the definitions speak of.
+// The sweeps of documents 01 and 02, as definitions and laws: specs/ has the rules and the drawing, proofs/ that every drawing is a solution. No code but the
+// structs that the definitions speak of.
 use grid::Segments;
 
 // A terminal of the column: its net (0: none), its kind (0 none, 1 starts, 2 continues, 3 ends) and its net's strands in the gap left of the
@@ -19,6 +19,14 @@ pub struct Joint {
     pub second: u16,
     pub high: u16,
     pub later: bool,
+}
+
+// A net with two strands that has no mate (0: none), its lower and its higher strand, and its last column.
+pub struct Double {
+    pub net: u16,
+    pub low: u16,
+    pub high: u16,
+    pub last: u16,
 }
 
 // The two lowest free tracks, 0 where there is none.
@@ -41,4 +49,11 @@ pub struct Action {
     pub gift1: Gift,
     pub gift2: Gift,
     pub gift3: Gift,
+}
+
+// What a rule does in a column and the pair that it forms, a double and a single net (0 and 0: none).
+pub struct Move {
+    pub action: Action,
+    pub double: u16,
+    pub single: u16,
 }

@@ -45,7 +45,6 @@ module _ (top bottom : List ℕ) (c t : ℕ) (tr : List ℕ) (size : length tr �
       grant3 = grant-none;
       endedKnown = pinNet (topNet refl);
       closedNamed = nobody refl;
-      flat = record { lower = inr (omega arith); upper = inr (omega arith) };
       middleIs = inl refl;
       bottomLands = λ a. through (inl refl) refl;
       topLands = λ a. through (inl refl) refl;

@@ -134,7 +134,6 @@ pin-wires-sound {t} {P} {Q} {q} {p} {e} {c} {t1} {n1} {t2} {n2} {t3} {n3} a b v 
   grant3 = g3;
   endedKnown = k1;
   closedNamed = k2;
-  flat = record { lower = inr (omega arith); upper = inl refl };
   middleIs = inl refl;
   bottomLands = o1;
   topLands = o2;

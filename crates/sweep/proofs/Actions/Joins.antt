@@ -1,4 +1,4 @@
--- The actions that join the strands of a net: rule 2 of both sweeps, and the columns added after column n.
+-- The actions that join the strands of a net: rule 2 of each sweep, and the columns added after column n.
 use Prim.Native.Nat.{ℕ, suc, _≤_, _<_, zero-le}
 use mathlib.Core.Path.{_≡_, refl, sym, ap, _∙_}
 use mathlib.Core.Logic.{inl, inr, _≢_, ⊎-elim}
@@ -100,7 +100,6 @@ module _ (top bottom : List ℕ) (c t : ℕ) (tr : List ℕ) (size : length tr �
     grant3 = third-grant (N .later) refl;
     endedKnown = strandNet (g .lowIs);
     closedNamed = nobody refl;
-    flat = record { lower = inr (omega arith); upper = inr (omega arith) };
     middleIs = inr (refl, g .lowIs, g .highIs);
     bottomLands = bottom-ends;
     topLands = top-ends;
@@ -161,7 +160,6 @@ joining-sound t tr size v n p =
       grant3 = grant-none;
       endedKnown = strandNet low;
       closedNamed = nobody refl;
-      flat = record { lower = inl refl; upper = inr (omega arith) };
       middleIs = inr (refl, low, high);
       bottomLands = λ n. absurd (n refl);
       topLands = λ n. absurd (n refl);

@@ -16,7 +16,7 @@ use Rattle.grid.proofs.Drawings.Ends.{Stop, atBottom, atTop, atLeft, atRight, S
 use Rattle.grid.proofs.Drawings.Fits.{Source, segments-column}
 use Rattle.sweep.specs.declared.Action.{Action}
 use Rattle.sweep.specs.Tracks.{verticals, after, clear, give}
-use Rattle.sweep.specs.Working.{FreeAt, Applies, Named, nobody, topNet, bottomNet, endedNet, Flat, Plain}
+use Rattle.sweep.specs.Working.{FreeAt, Applies, Named, nobody, topNet, bottomNet, endedNet, Plain}
 use Rattle.sweep.proofs.Columns.Entries.{draws}
 use Rattle.sweep.proofs.Tracks.Strands.{Strand, strand-of, strand-at}
 use Rattle.sweep.proofs.Tracks.After.{Gives, one, two, three, Distinct, after-back, runs-on, length-clear, length-give, give-other, clear-free}
@@ -59,7 +59,6 @@ pub record Sound (t P Q : ℕ) (tr : List ℕ) (x : Action) : Type 0 where
   pub grant3 : Grant P Q (x .ended) tr (x .gift3 .track) (x .gift3 .net)
   pub endedKnown : Known P Q tr (x .ended)
   pub closedNamed : Named P Q (x .ended) (x .closed)
-  pub flat : Flat (x .wires)
   -- the middle net ends, and its run joins two of its strands
   pub middleIs : (x .wires .middle ≡ 0) ⊎ ((x .wires .middle ≡ x .ended) × Strand (x .ended) tr (x .wires .start) × Strand (x .ended) tr (x .wires .stop))
   -- a pin's run ends at a strand of its net, and a net that goes on leaves there
@@ -209,7 +208,7 @@ module _ (t P Q : ℕ) (tr : List ℕ) (x : Action) (s : Sound t P Q tr x) where
 
   -- and names no other nets
   pub plain : Plain P Q x
-  plain = record { closed = s .closedNamed; net1 = s .grant1 .named; net2 = s .grant2 .named; net3 = s .grant3 .named; flat = s .flat }
+  plain = record { closed = s .closedNamed; net1 = s .grant1 .named; net2 = s .grant2 .named; net3 = s .grant3 .named }
 
 -- TRACKS GIVEN
 

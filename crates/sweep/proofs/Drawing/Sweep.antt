@@ -1,46 +1,55 @@
--- The invariant holds in every gap of the sweep, and every column finds the free tracks that it asks for.
+-- The invariant holds in every gap of the sweep, and every column's action is sound.
 use Prim.Native.Nat.{ℕ, zero, suc, _≤_, _<_}
-use mathlib.Core.Path.{_≡_, sym, _∙_}
-use mathlib.Core.Logic.{inl, _≢_}
+use mathlib.Core.Path.{_≡_, refl}
 use mathlib.Core.List.{List}
 use native.Mathlib.Omega.{arith}
-use lib.ListN.{length, getD, replicate, length-replicate}
-use Rattle.grid.specs.Channel.{times}
-use Rattle.grid.proofs.Counting.{none-times, zeros}
-use Rattle.grid.proofs.Rows.{RowsFit, before}
-use Rattle.sweep.specs.Drawing.{action, gap}
+use lib.ListN.{length, getD}
+use Rattle.grid.specs.declared.Family.{Family}
+use Rattle.grid.specs.declared.Family.the-variants.{TwoPin, ThreePin, ManyPin}
+use Rattle.grid.specs.Channel.{family}
+use Rattle.grid.proofs.Rows.{RowsFit}
+use Rattle.sweep.specs.Drawing.{moveOf, move, state, gap, moveAt}
 use Rattle.sweep.proofs.Columns.Sound.{Sound}
-use Rattle.sweep.proofs.Gaps.Held.{Enough, Held}
+use Rattle.sweep.proofs.Gaps.Held.{Enough, Held, held-start}
 use Rattle.sweep.proofs.Gaps.Keeps.{keeps}
-use Rattle.sweep.proofs.Rules.Room.{asks, room}
-use Rattle.sweep.proofs.Rules.Chosen.{action-good}
+use Rattle.sweep.proofs.Actions.Good.{Good}
+use Rattle.sweep.proofs.Rules.Chosen.{two-move-good, many-move-good}
+use Rattle.sweep.proofs.ThreePin.Sweep.{three-move-good, three-pair-small}
 
 module _ (t : ℕ) (top bottom : List ℕ) (fit : RowsFit top bottom) (enough : Enough t top bottom) where
-  -- in gap 0 all tracks are free
-  start : Held t top bottom 0 (replicate t 0)
-  start = record {
-    size = length-replicate t 0;
-    opens = λ v n l r. absurd (omega (arith, before top bottom v));
-    done = λ v n r. inl (empty v n);
-    few = λ v n. omega (arith, empty v n);
-  }
-    where
-      empty : (v : ℕ) → v ≢ 0 → times v (replicate t 0) ≡ 0
-      empty v n = none-times v (replicate t 0) (λ j p e. n (sym e ∙ zeros t j))
+  -- the action of a column is good, by the channel's family
+  good-of : (f : Family) → family top bottom ≡ f → (c : ℕ) → c < length top → Held t top bottom c (gap t top bottom c)
+      → Good top bottom c t (gap t top bottom c) (getD top c 0) (getD bottom c 0) (moveOf t top bottom f c (gap t top bottom c) (state t top bottom c .mates) .action)
+  good-of TwoPin e c p h = two-move-good top bottom fit c p (gap t top bottom c) h (state t top bottom c .mates) e (enough .twoPin e)
+  good-of ThreePin e c p h = three-move-good t top bottom fit e (enough .threePin e) c p
+  good-of ManyPin e c p h = many-move-good top bottom fit c p (gap t top bottom c) h (state t top bottom c .mates) (enough .manyPin e)
+
+  move-good : (c : ℕ) → c < length top → Held t top bottom c (gap t top bottom c)
+      → Good top bottom c t (gap t top bottom c) (getD top c 0) (getD bottom c 0) (moveAt t top bottom c .action)
+  unfolding moveAt move
+  move-good = good-of (family top bottom) refl
 
   -- THE INVARIANT
   pub invariant : (c : ℕ) → c ≤ length top → Held t top bottom c (gap t top bottom c)
-  unfolding gap
-  invariant zero p = start
+  unfolding state moveAt
+  invariant zero p = held-start t top bottom
   invariant (suc c) p =
       let h = invariant c (omega arith) in
-      let (s, f) = action-good top bottom fit c p (gap t top bottom c) h (room top bottom fit c p (gap t top bottom c) h enough) in
-      keeps top bottom c (gap t top bottom c) h (action t top bottom c (gap t top bottom c)) s f
-
-  -- THE ROOM
-  pub rooms : (c : ℕ) → c < length top → asks top bottom c (gap t top bottom c) ≤ times 0 (gap t top bottom c)
-  rooms c p = room top bottom fit c p (gap t top bottom c) (invariant c (omega arith)) enough
+      let (s, f) = move-good c p h in
+      keeps top bottom c (gap t top bottom c) h (moveAt t top bottom c .action) s f
 
   -- SO EVERY COLUMN'S ACTION IS SOUND
-  pub sound : (c : ℕ) → c < length top → Sound t (getD top c 0) (getD bottom c 0) (gap t top bottom c) (action t top bottom c (gap t top bottom c))
-  sound c p = action-good top bottom fit c p (gap t top bottom c) (invariant c (omega arith)) (rooms c p) .0
+  pub sound : (c : ℕ) → c < length top → Sound t (getD top c 0) (getD bottom c 0) (gap t top bottom c) (moveAt t top bottom c .action)
+  sound c p = move-good c p (invariant c (omega arith)) .0
+
+  -- AND THE NETS THAT IT PAIRS ARE NUMBERED UP TO 256
+  pair-small-of : (f : Family) → family top bottom ≡ f → (c : ℕ) → c < length top
+      → let x = moveOf t top bottom f c (gap t top bottom c) (state t top bottom c .mates) in (x .double ≤ 256) × (x .single ≤ 256)
+  unfolding moveOf
+  pair-small-of TwoPin e c p = (omega arith, omega arith)
+  pair-small-of ThreePin e c p = three-pair-small t top bottom fit e (enough .threePin e) c p
+  pair-small-of ManyPin e c p = (omega arith, omega arith)
+
+  pub pair-small : (c : ℕ) → c < length top → (moveAt t top bottom c .double ≤ 256) × (moveAt t top bottom c .single ≤ 256)
+  unfolding moveAt move
+  pair-small = pair-small-of (family top bottom) refl

@@ -11,7 +11,7 @@ use Rattle.grid.proofs.Counting.{times-at, holds-times, at-below}
 use Rattle.grid.proofs.Rows.{RowsFit, pin-right, no-right}
 use Rattle.grid.proofs.Drawings.Columns.{Drawn, Lives, none, more, solution}
 use Rattle.sweep.specs.Tracks.{verticals}
-use Rattle.sweep.specs.Drawing.{action, gap, drawn, remains, rest, added, width, layout}
+use Rattle.sweep.specs.Drawing.{state, gap, moveAt, drawn, remains, rest, added, width, layout}
 use Rattle.sweep.proofs.Columns.Entries.{verticals-length}
 use Rattle.sweep.proofs.Columns.Sound.{on, column}
 use Rattle.sweep.proofs.Gaps.Held.{Enough, no-more}
@@ -26,13 +26,13 @@ module _ (t : ℕ) (top bottom : List ℕ) (fit : RowsFit top bottom) (enough : 
 
   -- COLUMNS 1 TO n
   columns-drawn : (c : ℕ) → c ≤ length top → Drawn top bottom t c (drawn t top bottom c) (gap t top bottom c)
-  unfolding drawn gap
+  unfolding drawn state moveAt
   columns-drawn zero p = none top bottom t
   columns-drawn (suc c) p =
-      more top bottom t (verticals t (action t top bottom c (gap t top bottom c))) (gap t top bottom (suc c))
+      more top bottom t (verticals t (moveAt t top bottom c .action)) (gap t top bottom (suc c))
       (columns-drawn c (omega arith))
       (verticals-length t _) (invariant t top bottom fit enough (suc c) p .size)
-      (column t (getD top c 0) (getD bottom c 0) (gap t top bottom c) (action t top bottom c (gap t top bottom c)) (sound t top bottom fit enough c p))
+      (column t (getD top c 0) (getD bottom c 0) (gap t top bottom c) (moveAt t top bottom c .action) (sound t top bottom fit enough c p))
       (lives c p)
 
   -- after column n no net has a single strand

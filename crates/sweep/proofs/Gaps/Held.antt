@@ -1,22 +1,28 @@
 -- How many tracks are enough; the invariant of the tracks in a gap, and what it says of two-pin channels.
-use Prim.Native.Nat.{ℕ, _*_, _-_, _≤_, _<_}
-use mathlib.Core.Path.{_≡_}
+use Prim.Native.Nat.{ℕ, _*_, _-_, _/_, _≤_, _<_}
+use mathlib.Core.Path.{_≡_, sym, _∙_}
 use mathlib.Core.Logic.{_⊎_, inl, inr, _≢_, ⊎-elim}
 use mathlib.Core.List.{List}
 use native.Mathlib.Omega.{arith}
-use lib.ListN.{length}
-use Rattle.grid.specs.declared.Family.the-variants.{TwoPin, ManyPin}
+use lib.ListN.{length, replicate, length-replicate}
+use Rattle.grid.specs.declared.Family.the-variants.{TwoPin, ThreePin, ManyPin}
 use Rattle.grid.specs.Channel.{times, left, right, density, family, tracks}
-use Rattle.grid.proofs.Rows.{RowsFit, two-fit, two-density, many-density, left-right}
+use Rattle.grid.proofs.Counting.{none-times, zeros}
+use Rattle.grid.proofs.Rows.{RowsFit, two-fit, two-density, three-density, many-density, before, left-right}
 
 -- THE TRACKS that the sweep of each family asks for
 pub record Enough (t : ℕ) (top bottom : List ℕ) : Type 0 where
   pub twoPin : family top bottom ≡ TwoPin → density top bottom ≤ t
+  pub threePin : family top bottom ≡ ThreePin → 3 * density top bottom / 2 ≤ t
   pub manyPin : family top bottom ≡ ManyPin → 2 * density top bottom - 1 ≤ t
 
 -- the channel's tracks are enough
 pub tracks-enough : (top bottom : List ℕ) → Enough (tracks top bottom) top bottom
-tracks-enough top bottom = record { twoPin = λ e. omega (arith, two-density top bottom e); manyPin = λ e. omega (arith, many-density top bottom e) }
+tracks-enough top bottom = record {
+  twoPin = λ e. omega (arith, two-density top bottom e);
+  threePin = λ e. omega (arith, three-density top bottom e);
+  manyPin = λ e. omega (arith, many-density top bottom e);
+}
 
 -- THE INVARIANT of the t tracks in gap c
 pub record Held (t : ℕ) (top bottom : List ℕ) (c : ℕ) (tr : List ℕ) : Type 0 where
@@ -27,6 +33,18 @@ pub record Held (t : ℕ) (top bottom : List ℕ) (c : ℕ) (tr : List ℕ) : Ty
   pub done : (v : ℕ) → v ≢ 0 → right top bottom c v ≡ 0 → (times v tr ≡ 0) ⊎ (2 ≤ times v tr)
   -- a net has no more strands than pins to the left
   pub few : (v : ℕ) → v ≢ 0 → times v tr ≤ left top bottom c v
+
+-- in gap 0 all tracks are free
+pub held-start : (t : ℕ) (top bottom : List ℕ) → Held t top bottom 0 (replicate t 0)
+held-start t top bottom = record {
+  size = length-replicate t 0;
+  opens = λ v n l r. absurd (omega (arith, before top bottom v));
+  done = λ v n r. inl (empty v n);
+  few = λ v n. omega (arith, empty v n);
+}
+  where
+    empty : (v : ℕ) → v ≢ 0 → times v (replicate t 0) ≡ 0
+    empty v n = none-times v (replicate t 0) (λ j p e. n (sym e ∙ zeros t j))
 
 module _ {t : ℕ} (top bottom : List ℕ) (fit : RowsFit top bottom) (c : ℕ) (tr : List ℕ) (h : Held t top bottom c tr) where
   -- where each net has two pins, an open net has one strand

@@ -1,6 +1,6 @@
 -- The net of rule 2: what it is where there is one, and what holds where there is none.
 use Prim.Native.Nat.{ℕ, suc, _≤_, _<_}
-use mathlib.Core.Path.{_≡_, refl, sym, _∙_}
+use mathlib.Core.Path.{_≡_, refl, sym, _∙_, subst}
 use mathlib.Core.Logic.{_⊎_, inl, inr, _≢_, ⊎-elim}
 use mathlib.Core.Bool.{Bool, true, false, not}
 use mathlib.Core.List.{List}
@@ -99,6 +99,11 @@ module _ {t : ℕ} (top bottom : List ℕ) (c : ℕ) (tr : List ℕ) (h : Held t
         extended-right n .0,
         right-suc top bottom (extendedNet top bottom c tr) c n,
       )))
+
+  -- has no pins to come
+  pub extended-over : jointOf top bottom c tr (extendedNet top bottom c tr) .net ≢ 0
+      → right top bottom c (jointOf top bottom c tr (extendedNet top bottom c tr) .net) ≡ 0
+  extended-over n = let i = joint-net (extendedNet top bottom c tr) in subst (λ (v : ℕ). right top bottom c v ≡ 0) i (extended-right (λ z. n (sym i ∙ z)) .0)
 
   -- where there is none, every net whose pins all lie left is done
   calm : extendedNet top bottom c tr ≡ 0 → (v : ℕ) → v ≢ 0 → right top bottom c v ≡ 0 → times v tr ≡ 0

@@ -98,14 +98,18 @@ module _ {t : ℕ} (top bottom : List ℕ) (c : ℕ) (tr : List ℕ) (h : Held t
       go (no m) (no k) (yes z) = idle m k z (h .done v n z)
       go (no m) (no k) (no z) = ends m k z
 
+  -- a net has no more strands than before and for its pins
+  pub few-more : (v : ℕ) → v ≢ 0 → times v (after x tr) ≤ times v tr + (bit (eqb (getD top c 0) v) + bit (eqb (getD bottom c 0) v))
+  few-more v n = go (ℕ-discrete (x .ended) v) (ℕ-discrete (x .closed) v)
+    where
+      go : Dec (x .ended ≡ v) → Dec (x .closed ≡ v) → times v (after x tr) ≤ times v tr + (bit (eqb (getD top c 0) v) + bit (eqb (getD bottom c 0) v))
+      go (yes e) d = omega (arith, after-ended x tr v n (inl e), rw e at (f .endedFew (λ i. n (sym e ∙ i))))
+      go (no m) (yes e) = omega (arith, after-ended x tr v n (inr e), rw e at (f .closedOff (λ i. n (sym e ∙ i)) .1))
+      go (no m) (no k) = omega (arith, after-times x tr v n, f .othersFew v n m k)
+
   -- NO MORE STRANDS THAN PINS TO THE LEFT
   few : (v : ℕ) → v ≢ 0 → times v (after x tr) ≤ left top bottom (suc c) v
-  few v n = go (ℕ-discrete (x .ended) v) (ℕ-discrete (x .closed) v)
-    where
-      go : Dec (x .ended ≡ v) → Dec (x .closed ≡ v) → times v (after x tr) ≤ left top bottom (suc c) v
-      go (yes e) d = omega (arith, after-ended x tr v n (inl e), rw e at (f .endedFew (λ i. n (sym e ∙ i))), h .few v n, left-suc top bottom v c n)
-      go (no m) (yes e) = omega (arith, after-ended x tr v n (inr e), rw e at (f .closedOff (λ i. n (sym e ∙ i)) .1))
-      go (no m) (no k) = omega (arith, after-times x tr v n, f .othersFew v n m k, h .few v n, left-suc top bottom v c n)
+  few v n = omega (arith, few-more v n, h .few v n, left-suc top bottom v c n)
 
   -- THE INVARIANT HOLDS IN THE NEXT GAP
   pub keeps : Held t top bottom (suc c) (after x tr)

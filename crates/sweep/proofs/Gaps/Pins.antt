@@ -170,7 +170,7 @@ Stays ends = ⊥
 
 module _ (top bottom : List ℕ) (fit : RowsFit top bottom) (c : ℕ) (tr : List ℕ) (A B : Pin) (p : Pinned top bottom c tr A B) (d : B .net ≢ A .net) where
   -- one of two pins of different nets is alone
-  alone : (v : ℕ) → v ≢ 0 → HasPin top bottom v c → bit (eqb (getD top c 0) v) + bit (eqb (getD bottom c 0) v) ≡ 1
+  pub alone : (v : ℕ) → v ≢ 0 → HasPin top bottom v c → bit (eqb (getD top c 0) v) + bit (eqb (getD bottom c 0) v) ≡ 1
   alone v n here =
       ⊎-elim
       (λ a. ⊎-elim (λ b. absurd (d (sym (p .below .net) ∙ b .0 ∙ sym (a .0) ∙ p .above .net))) (λ b. omega arith) (eqBit (getD bottom c 0) v))

@@ -1,5 +1,5 @@
 -- Whatever action the rules of a sweep choose is good.
-use Prim.Native.Nat.{ℕ, suc, _≤_, _<_}
+use Prim.Native.Nat.{ℕ, suc, _*_, _-_, _≤_, _<_}
 use mathlib.Core.Path.{_≡_, refl, sym, ap, _∙_, subst, subst₂}
 use mathlib.Core.Logic.{_⊎_, inl, inr, _≢_, ⊎-elim}
 use mathlib.Core.Bool.{Bool, true, false, not, _&&_, _||_}
@@ -8,9 +8,8 @@ use native.Mathlib.Omega.{arith}
 use native.Mathlib.Decide.{ℕ-discrete}
 use lib.Dec.{eqb, ltb}
 use lib.ListN.{length, getD}
-use Rattle.grid.specs.declared.Family.{Family}
 use Rattle.grid.specs.declared.Family.the-variants.{TwoPin, ManyPin}
-use Rattle.grid.specs.Channel.{pick, bit, times, right, family}
+use Rattle.grid.specs.Channel.{pick, bit, times, right, density, family}
 use Rattle.grid.proofs.Tests.{Below, eqb-true, eqb-false, ltb-true, ltb-false, eq-eqb, and-true, or-false, not-true, not-false}
 use Rattle.grid.proofs.Rows.{RowsFit, two-fit, HasPin, left-right, right-suc, pin-right}
 use Rattle.sweep.specs.declared.Action.{Action}
@@ -23,7 +22,7 @@ use Rattle.sweep.specs.TwoPin
 use Rattle.sweep.specs.TwoPin.{joinOr, chooseTwo}
 use Rattle.sweep.specs.ManyPin
 use Rattle.sweep.specs.ManyPin.{topContinues, bottomContinues, bothContinue, bothPins, chooseMany}
-use Rattle.sweep.specs.Drawing.{freeOf, later, pinAt, jointOf, extendedNet, netToJoin, actionOf, action}
+use Rattle.sweep.specs.Drawing.{freeOf, later, pinAt, jointOf, extendedNet, netToJoin, moveOf}
 use Rattle.sweep.proofs.Tracks.Strands.{Strand}
 use Rattle.sweep.proofs.Columns.Sound.{Grant, grant-idle, grant-free, grant-old}
 use Rattle.sweep.specs.Working.{topNet}
@@ -31,7 +30,7 @@ use Rattle.sweep.proofs.Gaps.Held.{Held}
 use Rattle.sweep.proofs.Gaps.Pins.{Reaches, LowestFree, lowest-free, On, Off, Met, Placed, Pinned, pinned, Stays, begun, both-on, top-later, true-of}
 use Rattle.sweep.proofs.Gaps.Pins.{false-of, of-true}
 use Rattle.sweep.proofs.Gaps.Joints.{Joins, extended-joins, to-join-joins, to-join-few}
-use Rattle.sweep.proofs.Rules.Room.{asksKinds, asksTwo, asksMany, asksOf, asks, never, not-none, not-one}
+use Rattle.sweep.proofs.Rules.Room.{asksKinds, asksTwo, asksMany, never, not-none, not-one, two-pin-room, many-pin-room}
 use Rattle.sweep.proofs.Actions.Good.{Good, BothOn, Begun}
 use Rattle.sweep.proofs.Actions.Free.{straight-good, full-good, topTakesFree-good, bottomTakesFree-good, bothTakeFree-good}
 use Rattle.sweep.proofs.Actions.Ends.{topEnds-good, bottomEnds-good, bothJoin-good}
@@ -39,8 +38,8 @@ use Rattle.sweep.proofs.Actions.Continues.{topDirect-good, bottomDirect
 use Rattle.sweep.proofs.Actions.Continues.{bottomJoins-good, topMoves-good, bottomMoves-good}
 use Rattle.sweep.proofs.Actions.Joins.{joinNet-good}
 
--- an action chosen by a test
-by : (F : Action → Type 0) (b : Bool) {x y : Action} → (b ≡ true → F x) → (b ≡ false → F y) → F (pick b x y)
+-- an action or a move chosen by a test
+pub by : {X : Type 0} (F : X → Type 0) (b : Bool) {x y : X} → (b ≡ true → F x) → (b ≡ false → F y) → F (pick b x y)
 by F true f g = f refl
 by F false f g = g refl
 
@@ -50,18 +49,24 @@ byRoom : (F : Action → Type 0) (z : ℕ) (b : Bool) {x y : Action} {m n : ℕ}
 byRoom F z true p f g = f refl p
 byRoom F z false p f g = g refl p
 
+-- the pins' nets by the rows
+pub by-rows : {top bottom : List ℕ} {c t : ℕ} {tr : List ℕ} {A B : Pin} {x : Action} → Pinned top bottom c tr A B
+    → Good top bottom c t tr (A .net) (B .net) x → Good top bottom c t tr (getD top c 0) (getD bottom c 0) x
+by-rows {top} {bottom} {c} {t} {tr} {x = x} pin g =
+    subst₂ (λ (p q : ℕ). Good top bottom c t tr p q x) (sym (pin .above .net)) (sym (pin .below .net)) g
+
 module _ (top bottom : List ℕ) (fit : RowsFit top bottom) (c t : ℕ) (tr : List ℕ) (size : length tr ≡ t) (A B : Pin) (pin : Pinned top bottom c tr A B)
     (f : Free) (free : LowestFree tr (f .first) (f .second)) where
   -- good for the column's pins
-  abbrev Fine : Action → Type 0
+  abbrev pub Fine : Action → Type 0
   Fine x = Good top bottom c t tr (A .net) (B .net) x
 
   -- no pins
-  noPins : A .net ≡ 0 → B .net ≡ 0 → Fine straight
+  pub noPins : A .net ≡ 0 → B .net ≡ 0 → Fine straight
   noPins a b = subst₂ (λ (p q : ℕ). Good top bottom c t tr p q straight) (sym a) (sym b) (straight-good top bottom c t tr size)
 
   -- one net has both pins
-  fullHere : (y : ℕ) → A .net ≢ 0 → A .net ≡ B .net → Grant (A .net) (A .net) (A .net) tr y (A .net) → (On top bottom c (A .net) → (u : ℕ) × Strand u tr y)
+  pub fullHere : (y : ℕ) → A .net ≢ 0 → A .net ≡ B .net → Grant (A .net) (A .net) (A .net) tr y (A .net) → (On top bottom c (A .net) → (u : ℕ) × Strand u tr y)
       → (Off top bottom c (A .net) → y ≡ 0)
       → Fine (full t (A .net) y)
   fullHere y n e g s z = subst (λ (q : ℕ). Good top bottom c t tr (A .net) q (full t (A .net) y)) e (full-good top bottom c t tr size (A .net) y n g s z)
@@ -69,12 +74,12 @@ module _ (top bottom : List ℕ) (fit : RowsFit top bottom) (c t : ℕ) (tr : Li
   -- TWO PINS THAT ARE NOT OF ONE NET
   module _ (d : B .net ≢ A .net) where
     -- the pins as the rows have them
-    here : (v : ℕ) → (A .net ≡ v) ⊎ (B .net ≡ v) → HasPin top bottom v c
+    pub here : (v : ℕ) → (A .net ≡ v) ⊎ (B .net ≡ v) → HasPin top bottom v c
     here v (inl i) = inl (pin .above .net ∙ i)
     here v (inr i) = inr (pin .below .net ∙ i)
 
     -- a net with its last pin here has pins before
-    started : Begun top bottom c t tr (A .net) (B .net)
+    pub started : Begun top bottom c t tr (A .net) (B .net)
     started v n o = begun top bottom fit c tr A B pin d v n (here v o)
 
     -- nets whose pins do not end go on
@@ -82,28 +87,28 @@ module _ (top bottom : List ℕ) (fit : RowsFit top bottom) (c t : ℕ) (tr : Li
     goOn k l a b s r v n o = both-on top bottom fit c tr A B pin d k l a b s r v n (here v o)
 
     -- one pin starts
-    topAlone : (a : Met top bottom c tr A starts) (b : Met top bottom c tr B none) → 1 ≤ times 0 tr → Fine (topTakesFree f (A .net))
+    pub topAlone : (a : Met top bottom c tr A starts) (b : Met top bottom c tr B none) → 1 ≤ times 0 tr → Fine (topTakesFree f (A .net))
     topAlone a b p =
         subst (λ (q : ℕ). Good top bottom c t tr (A .net) q (topTakesFree f (A .net))) (sym b)
         (topTakesFree-good top bottom c t tr size f (A .net) (free .firstIs p)
         (subst (λ (q : ℕ). BothOn top bottom c t tr (A .net) q) b (goOn starts none a b tt tt)))
 
-    bottomAlone : (a : Met top bottom c tr A none) (b : Met top bottom c tr B starts) → 1 ≤ times 0 tr → Fine (bottomTakesFree f (B .net))
+    pub bottomAlone : (a : Met top bottom c tr A none) (b : Met top bottom c tr B starts) → 1 ≤ times 0 tr → Fine (bottomTakesFree f (B .net))
     bottomAlone a b p =
         subst (λ (q : ℕ). Good top bottom c t tr q (B .net) (bottomTakesFree f (B .net))) (sym a)
         (bottomTakesFree-good top bottom c t tr size f (B .net) (free .firstIs p)
         (subst (λ (q : ℕ). BothOn top bottom c t tr q (B .net)) a (goOn none starts a b tt tt)))
 
     -- both start
-    bothStart : Met top bottom c tr A starts → Met top bottom c tr B starts → 2 ≤ times 0 tr → Fine (bothTakeFree f (A .net) (B .net))
+    pub bothStart : Met top bottom c tr A starts → Met top bottom c tr B starts → 2 ≤ times 0 tr → Fine (bothTakeFree f (A .net) (B .net))
     bothStart a b p = bothTakeFree-good top bottom c t tr size f (A .net) (B .net) (free .firstIs (omega arith)) (free .secondIs p) (free .order p)
         (goOn starts starts a b tt tt)
 
     -- a pin ends its net
-    topEndsHere : Met top bottom c tr A ends → Fine (topEnds A B)
+    pub topEndsHere : Met top bottom c tr A ends → Fine (topEnds A B)
     topEndsHere a = topEnds-good top bottom c t tr size A B d (a .0) (a .2) started
 
-    bottomEndsHere : Met top bottom c tr B ends → Fine (bottomEnds A B)
+    pub bottomEndsHere : Met top bottom c tr B ends → Fine (bottomEnds A B)
     bottomEndsHere b = bottomEnds-good top bottom c t tr size A B d (b .0) (b .2) started
 
     -- both end
@@ -116,14 +121,14 @@ module _ (top bottom : List ℕ) (fit : RowsFit top bottom) (c t : ℕ) (tr : Li
 
     module _ (fewA : A .many ≤ 2) (fewB : B .many ≤ 2) where
       -- a pin that continues, with a free track
-      topContinuesHere : BothOn top bottom c t tr (A .net) (B .net) → Reaches tr A → 1 ≤ times 0 tr → Fine (topContinues A B f)
+      pub topContinuesHere : BothOn top bottom c t tr (A .net) (B .net) → Reaches tr A → 1 ≤ times 0 tr → Fine (topContinues A B f)
       unfolding topContinues
       topContinuesHere o a p =
           by Fine (ltb (f .first) (A .high))
           (λ e. topGoes-good top bottom c t tr size A B o f a (free .firstIs p) (ltb-true (f .first) (A .high) e))
           (λ e. topMoves-good top bottom c t tr size A B o d f a fewA (free .firstIs p) (ltb-false (f .first) (A .high) e))
 
-      bottomContinuesHere : BothOn top bottom c t tr (A .net) (B .net) → Reaches tr B → 1 ≤ times 0 tr → Fine (bottomContinues A B f)
+      pub bottomContinuesHere : BothOn top bottom c t tr (A .net) (B .net) → Reaches tr B → 1 ≤ times 0 tr → Fine (bottomContinues A B f)
       unfolding bottomContinues
       bottomContinuesHere o b p =
           by Fine (ltb (B .low) (f .first))
@@ -166,7 +171,7 @@ module _ (top bottom : List ℕ) (fit : RowsFit top bottom) (c t : ℕ) (tr : Li
 
   module _ (N : Joint) (joins : Joins top bottom c tr N) where
     -- rule 2
-    joinHere : N .net ≢ 0 → Begun top bottom c t tr (A .net) (B .net) → Fine (joinNet N (A .net) (B .net))
+    pub joinHere : N .net ≢ 0 → Begun top bottom c t tr (A .net) (B .net) → Fine (joinNet N (A .net) (B .net))
     joinHere n o = joinNet-good top bottom c t tr size N (A .net) (B .net) (joins .bound n) (joins .told n) o
 
     -- CHANNELS WITH A NET OF THREE OR MORE PINS
@@ -257,7 +262,7 @@ module _ (top bottom : List ℕ) (fit : RowsFit top bottom) (c t : ℕ) (tr : Li
 
 -- THE ACTION OF A COLUMN IS GOOD
 module _ {t : ℕ} (top bottom : List ℕ) (fit : RowsFit top bottom) (c : ℕ) (inside : c < length top) (tr : List ℕ) (h : Held t top bottom c tr)
-    (room : asks top bottom c tr ≤ times 0 tr) where
+    (m : List ℕ) where
   -- its pins
   abbrev A : Pin
   A = pinAt top bottom c tr (getD top c 0)
@@ -292,24 +297,21 @@ module _ {t : ℕ} (top bottom : List ℕ) (fit : RowsFit top bottom) (c : ℕ) 
       go (yes e) = omega (arith, p .none e)
       go (no n) = omega (arith, p .some n, to-join-few top bottom c tr h z (C .net) n (pin-right top bottom (C .net) c n (rw (p .net) at here)))
 
-  -- whatever the rules of a family choose
-  good-of : (f : Family) → family top bottom ≡ f → asksOf top bottom f c tr ≤ times 0 tr
-      → Good top bottom c t tr (A .net) (B .net) (actionOf t top bottom f c tr)
-  unfolding actionOf asksOf
-  good-of TwoPin e p =
-      two-good top bottom fit c t tr (h .size) A B pin (freeOf tr) (lowest-free tr)
+  -- whatever the rules of two-pin channels choose
+  pub two-move-good : family top bottom ≡ TwoPin → density top bottom ≤ t
+      → Good top bottom c t tr (getD top c 0) (getD bottom c 0) (moveOf t top bottom TwoPin c tr m .action)
+  unfolding moveOf
+  two-move-good e big = by-rows pin
+      (two-good top bottom fit c t tr (h .size) A B pin (freeOf tr) (lowest-free tr)
       (jointOf top bottom c tr (extendedNet top bottom c tr)) (extended-joins top bottom c tr h)
       (never top bottom fit c inside tr h A B pin e A (inl (pin .above .net))) (never top bottom fit c inside tr h A B pin e B (inr (pin .below .net)))
-      (both e) p
-  good-of ManyPin e p =
-      many-good top bottom fit c t tr (h .size) A B pin (freeOf tr) (lowest-free tr) (jointOf top bottom c tr (netToJoin top bottom c tr))
-      (to-join-joins top bottom c tr h)
-      (later top bottom (suc c) (getD top c 0)) (top-later top bottom c tr h (pinned top bottom c tr h .above)) (λ z. few-pins z (inl refl) (pin .above))
-      (λ z. few-pins z (inr refl) (pin .below)) p
+      (both e) (two-pin-room top bottom fit c inside tr h e big))
 
-  -- and so by the channel's family
-  pub action-good : Good top bottom c t tr (getD top c 0) (getD bottom c 0) (action t top bottom c tr)
-  unfolding action asks
-  action-good =
-      subst₂ (λ (p q : ℕ). Good top bottom c t tr p q (action t top bottom c tr)) (sym (pin .above .net)) (sym (pin .below .net))
-      (good-of (family top bottom) refl room)
+  -- and those of many-pin channels
+  pub many-move-good : 2 * density top bottom - 1 ≤ t → Good top bottom c t tr (getD top c 0) (getD bottom c 0) (moveOf t top bottom ManyPin c tr m .action)
+  unfolding moveOf
+  many-move-good big = by-rows pin
+      (many-good top bottom fit c t tr (h .size) A B pin (freeOf tr) (lowest-free tr) (jointOf top bottom c tr (netToJoin top bottom c tr))
+      (to-join-joins top bottom c tr h)
+      (later top bottom (suc c) (getD top c 0)) (top-later top bottom c tr h (pin .above)) (λ z. few-pins z (inl refl) (pin .above))
+      (λ z. few-pins z (inr refl) (pin .below)) (many-pin-room top bottom fit c inside tr h big))

@@ -1,20 +1,26 @@
--- Pairs of kinds: their number taken apart, and what a column of a two-pin channel does by them.
+-- Pairs of kinds: their number taken apart, and what a column of a two-pin or a three-pin channel does by them.
 use Prim.Native.Nat.{ℕ, zero, suc, _+_, _*_, _/_, _%_, _≤_, _<_}
 use mathlib.Core.Path.{_≡_, refl, sym, ap, ap₂, _∙_}
-use mathlib.Core.Bool.{Bool, true, false, not, _&&_}
+use mathlib.Core.Bool.{Bool, true, false, not, _&&_, _||_}
 use mathlib.Core.Logic.{_≢_}
 use native.Mathlib.Omega.{arith}
 use lib.Dec.{eqb, ltb}
-use Rattle.grid.proofs.Tests.{eqb-true, Same, same, diff, sameBy, Below, below, above, belowBy}
+use Rattle.grid.specs.Channel.{pick}
+use Rattle.grid.proofs.Tests.{eqb-true, le-ltb, Same, same, diff, sameBy, Below, below, above, belowBy}
 use Rattle.sweep.specs.declared.Action.{Action}
 use Rattle.sweep.specs.declared.Pin.{Pin}
 use Rattle.sweep.specs.declared.Free.{Free}
 use Rattle.sweep.specs.declared.Joint.{Joint}
-use Rattle.sweep.specs.Rules.{Kind, none, starts, continues, ends, kindOf, straight}
+use Rattle.sweep.specs.declared.Double.{Double}
+use Rattle.sweep.specs.declared.Move.{Move}
+use Rattle.sweep.specs.Rules.{Kind, none, starts, continues, ends, kindOf, straight, joinNet}
 use Rattle.sweep.specs.TwoPin.{chooseTwo, byKinds}
+use Rattle.sweep.specs.ThreePin
+use Rattle.sweep.specs.ThreePin.{still, joinElse}
+use Rattle.sweep.specs.Drawing.{noJoint}
 
 -- what a function g of two kinds k and l answers, by their number m
-pub at-number : (g : Kind → Kind → Action) (k l m : ℕ) {x : Action} → 4 * k + l ≡ m → (k ≤ 3) × (l ≤ 3) → x ≡ g (kindOf (m / 4)) (kindOf (m % 4)) → x ≡ g (kindOf k) (kindOf l)
+pub at-number : {R : Type 0} (g : Kind → Kind → R) (k l m : ℕ) {x : R} → 4 * k + l ≡ m → (k ≤ 3) × (l ≤ 3) → x ≡ g (kindOf (m / 4)) (kindOf (m % 4)) → x ≡ g (kindOf k) (kindOf l)
 at-number g k l m e h r =
     let p : k ≡ m / 4 = omega arith in
     let q : l ≡ m % 4 = omega arith in
@@ -86,3 +92,50 @@ module _ (A B : Pin) (f : Free) (N : Joint) where
   pub by-number : (t m : ℕ) {x : Action} → (not (eqb (A .net) 0) && eqb (A .net) (B .net)) ≡ false → 4 * A .kind + B .kind ≡ m → (A .kind ≤ 3) × (B .kind ≤ 3)
       → x ≡ byKinds A B f N (kindOf (m / 4)) (kindOf (m % 4)) → x ≡ chooseTwo t A B f N
   by-number t m i e h r = by-kinds t i (at-number (byKinds A B f N) (A .kind) (B .kind) m e h r)
+
+-- two kinds that rule 2 of three-pin channels asks for: there is a pin, and none ends its net
+abbrev pub mayJoin : (k l : ℕ) → Bool
+mayJoin k l = (ltb k 3 && ltb l 3) && (ltb 0 k || ltb 0 l)
+
+-- the number of a pin that ends its net
+ended : (k : ℕ) → ltb (suc (suc (suc k))) 3 ≡ false
+ended k = le-ltb (suc (suc (suc k))) 3 (omega arith)
+
+module _ (A B : Pin) (ea eb : ℕ) (f : Free) (N : Joint) (D M : Double) where
+  -- rule 2 fits the kinds
+  fits : (x : Move) → joinElse N (A .net) (B .net) x ≡ pick (not (eqb (N .net) 0) && true) (still (joinNet N (A .net) (B .net))) x
+  unfolding joinElse
+  fits x = go (eqb (N .net) 0)
+    where
+      go : (q : Bool) → pick q x (still (joinNet N (A .net) (B .net))) ≡ pick (not q && true) (still (joinNet N (A .net) (B .net))) x
+      go true = refl
+      go false = refl
+
+  -- rule 2 does not fit them
+  unfit : (x : Move) → x ≡ pick (not (eqb (N .net) 0) && false) (still (joinNet N (A .net) (B .net))) x
+  unfit x = go (eqb (N .net) 0)
+    where
+      go : (q : Bool) → x ≡ pick (not q && false) (still (joinNet N (A .net) (B .net))) x
+      go true = refl
+      go false = refl
+
+  -- a column of a three-pin channel joins the net of rule 2 where that fits the kinds; else it does what it does with no such net
+  pub rule-two : (k l : ℕ) → ThreePin.byKinds A B ea eb f N D M (kindOf k) (kindOf l)
+      ≡ pick (not (eqb (N .net) 0) && mayJoin k l) (still (joinNet N (A .net) (B .net))) (ThreePin.byKinds A B ea eb f noJoint D M (kindOf k) (kindOf l))
+  unfolding ThreePin.byKinds joinElse kindOf
+  rule-two zero zero = unfit _
+  rule-two zero (suc zero) = fits _
+  rule-two zero (suc (suc zero)) = fits _
+  rule-two zero (suc (suc (suc l))) = rw (ended l) (unfit _)
+  rule-two (suc zero) zero = fits _
+  rule-two (suc zero) (suc zero) = fits _
+  rule-two (suc zero) (suc (suc zero)) = fits _
+  rule-two (suc zero) (suc (suc (suc l))) = rw (ended l) (unfit _)
+  rule-two (suc (suc zero)) zero = fits _
+  rule-two (suc (suc zero)) (suc zero) = fits _
+  rule-two (suc (suc zero)) (suc (suc zero)) = fits _
+  rule-two (suc (suc zero)) (suc (suc (suc l))) = rw (ended l) (unfit _)
+  rule-two (suc (suc (suc k))) zero = rw (ended k) (unfit _)
+  rule-two (suc (suc (suc k))) (suc zero) = rw (ended k) (unfit _)
+  rule-two (suc (suc (suc k))) (suc (suc zero)) = rw (ended k) (unfit _)
+  rule-two (suc (suc (suc k))) (suc (suc (suc l))) = rw (ended k) (unfit _)

@@ -9,8 +9,7 @@ use native.Mathlib.Nat.{mul-le-mul-left, mul-one}
 use native.Mathlib.Decide.{ℕ-discrete}
 use lib.Dec.{T, eqb, ltb}
 use lib.ListN.{length, getD}
-use Rattle.grid.specs.declared.Family.{Family}
-use Rattle.grid.specs.declared.Family.the-variants.{TwoPin, ManyPin}
+use Rattle.grid.specs.declared.Family.the-variants.{TwoPin}
 use Rattle.grid.specs.Channel.{pick, bit, times, sum, count, left, right, isOpen, openAt, density, family}
 use Rattle.grid.proofs.Tests.{Same, same, sameBy, Below, eqBit, eqb-true, eqb-false, ltb-false, eq-eqb, ne-eqb, not-false, or-false}
 use Rattle.grid.proofs.Counting.{sum-plus, sum-le, sum-scale, sum-one, length-times}
@@ -19,7 +18,7 @@ use Rattle.sweep.specs.declared.Pin.{Pin}
 use Rattle.sweep.specs.declared.Joint.{Joint}
 use Rattle.sweep.specs.Rules.{Kind, none, starts, continues, ends, kindOf}
 use Rattle.sweep.specs.Drawing.{later, pinAt, jointOf, extendedNet, netToJoin}
-use Rattle.sweep.proofs.Gaps.Held.{Enough, Held, single, no-more}
+use Rattle.sweep.proofs.Gaps.Held.{Held, single, no-more}
 use Rattle.sweep.proofs.Gaps.Pins.{On, Met, Stays, Pinned, pinned, top-later, of-true, both-on}
 use Rattle.sweep.proofs.Gaps.Joints.{extended-calm, to-join-calm, to-join-few}
 
@@ -63,22 +62,6 @@ asksMany A B N later =
     pick (eqb (A .net) 0 && eqb (B .net) 0) 0
     (pick (eqb (A .net) (B .net)) (pick (ltb 0 (A .many) || not later) 0 (pick (eqb (N .net) 0) 1 0))
     (pick (eqb (N .net) 0) (asksKinds A B (kindOf (A .kind)) (kindOf (B .kind))) 0))
-
-module _ (top bottom : List ℕ) where
-  -- column c + 1 in the sweep of a family, with the tracks tr in gap c
-  unfoldable pub asksOf : Family → (c : ℕ) (tr : List ℕ) → ℕ
-  asksOf TwoPin c tr =
-      let A = pinAt top bottom c tr (getD top c 0) in
-      let B = pinAt top bottom c tr (getD bottom c 0) in
-      asksTwo A B (jointOf top bottom c tr (extendedNet top bottom c tr))
-  asksOf ManyPin c tr =
-      let A = pinAt top bottom c tr (getD top c 0) in
-      let B = pinAt top bottom c tr (getD bottom c 0) in
-      asksMany A B (jointOf top bottom c tr (netToJoin top bottom c tr)) (later top bottom (suc c) (getD top c 0))
-
-  -- and by the channel's family
-  unfoldable pub asks : (c : ℕ) (tr : List ℕ) → ℕ
-  asks = asksOf (family top bottom)
 
 -- a choice of what is small enough is small enough
 pick-le : (b : Bool) {x y : ℕ} (z : ℕ) → (b ≡ true → x ≤ z) → (b ≡ false → y ≤ z) → pick b x y ≤ z
@@ -289,19 +272,21 @@ module _ {t : ℕ} (top bottom : List ℕ) (fit : RowsFit top bottom) (c : ℕ) 
           (kindOf (A .kind)) (kindOf (B .kind)) (p .above .met) (p .below .met))
           (λ l. zero-le)))
 
-  -- THE ROOM: the free tracks that a column asks for are there, in the sweep of each family
-  room-of : Enough t top bottom → (f : Family) → family top bottom ≡ f → asksOf top bottom f c tr ≤ times 0 tr
-  unfolding asksOf
-  room-of enough TwoPin e =
-      two-room (pinAt top bottom c tr (getD top c 0)) (pinAt top bottom c tr (getD bottom c 0)) (pinned top bottom c tr h) e (enough .twoPin e)
-      (jointOf top bottom c tr (extendedNet top bottom c tr)) (extended-calm top bottom c tr h)
-  room-of enough ManyPin e =
-      many-room (pinAt top bottom c tr (getD top c 0)) (pinAt top bottom c tr (getD bottom c 0)) (pinned top bottom c tr h) (enough .manyPin e)
-      (jointOf top bottom c tr (netToJoin top bottom c tr)) (later top bottom (suc c) (getD top c 0))
+  -- THE ROOM: the free tracks that a column asks for are there
+  abbrev A : Pin
+  A = pinAt top bottom c tr (getD top c 0)
+
+  abbrev B : Pin
+  B = pinAt top bottom c tr (getD bottom c 0)
+
+  -- in two-pin channels
+  pub two-pin-room : family top bottom ≡ TwoPin → density top bottom ≤ t → asksTwo A B (jointOf top bottom c tr (extendedNet top bottom c tr)) ≤ times 0 tr
+  two-pin-room e big = two-room A B (pinned top bottom c tr h) e big (jointOf top bottom c tr (extendedNet top bottom c tr)) (extended-calm top bottom c tr h)
+
+  -- in many-pin channels
+  pub many-pin-room : 2 * density top bottom - 1 ≤ t
+      → asksMany A B (jointOf top bottom c tr (netToJoin top bottom c tr)) (later top bottom (suc c) (getD top c 0)) ≤ times 0 tr
+  many-pin-room big =
+      many-room A B (pinned top bottom c tr h) big (jointOf top bottom c tr (netToJoin top bottom c tr)) (later top bottom (suc c) (getD top c 0))
       (top-later top bottom c tr h (pinned top bottom c tr h .above))
       (to-join-calm top bottom c tr h) (to-join-few top bottom c tr h)
-
-  -- and so by the channel's family
-  pub room : Enough t top bottom → asks top bottom c tr ≤ times 0 tr
-  unfolding asks
-  room enough = room-of enough (family top bottom) refl

@@ -8,10 +8,13 @@ use Rattle.sweep.specs.declared.Action.{Action}
 use Rattle.sweep.specs.declared.Pin.{Pin}
 use Rattle.sweep.specs.declared.Free.{Free}
 use Rattle.sweep.specs.declared.Joint.{Joint}
+use Rattle.sweep.specs.declared.Double.{Double}
 use Rattle.sweep.specs.Rules.{Kind, none, starts, continues, ends, kindOf, joinNet}
 use Rattle.sweep.specs.TwoPin
 use Rattle.sweep.specs.TwoPin.{chooseTwo, joinOr}
 use Rattle.sweep.specs.ManyPin.{chooseMany, bothPins}
+use Rattle.sweep.specs.ThreePin.{chooseThree}
+use Rattle.sweep.proofs.Rules.Kinds.{rule-two}
 
 -- the net of rule 2, its second lowest strand only where it leaves on that one
 abbrev pub leaving : Joint → Joint
@@ -63,3 +66,8 @@ module _ (A B : Pin) (f : Free) (N : Joint) where
   pub many-same : (t : ℕ) (later : Bool) → chooseMany t A B f (leaving N) later ≡ chooseMany t A B f N later
   unfolding chooseMany bothPins
   many-same t later = simp join-same
+
+  -- three-pin channels
+  pub three-same : (t ea eb : ℕ) (D M : Double) → chooseThree t A B ea eb f (leaving N) D M ≡ chooseThree t A B ea eb f N D M
+  unfolding chooseThree
+  three-same t ea eb D M = simp (rule-two A B ea eb f (leaving N) D M, rule-two A B ea eb f N D M, join-same)
