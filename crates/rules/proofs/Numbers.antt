@@ -2,7 +2,6 @@
 use Prim.Native.Nat.{ℕ, zero, suc, _+_, _*_, _/_, _%_, min}
 use mathlib.Core.Path.{_≡_, ap, ap₂, _∙_}
 use native.Mathlib.Omega.{arith}
-use Rattle.sweep.specs.declared.Action.{Action}
 use Rattle.sweep.specs.Rules.{Kind, kindOf}
 use Rattle.sweep.proofs.Rules.Kinds.{at-number, NoneOf, none-of}
 
@@ -13,7 +12,7 @@ kind-capped (suc zero) i e = ap kindOf e
 kind-capped (suc (suc zero)) i e = ap kindOf e
 kind-capped (suc (suc (suc k))) i e = let three : i ≡ 3 = omega arith in ap kindOf three
 
-module _ (g : Kind → Kind → Action) (k l i j : ℕ) (p : i ≡ min k 3) (q : j ≡ min l 3) {x : Action} where
+module _ {R : Type 0} (g : Kind → Kind → R) (k l i j : ℕ) (p : i ≡ min k 3) (q : j ≡ min l 3) {x : R} where
   -- what a function of two kinds answers, by the number m of their pair
   pub at-kinds : (m : ℕ) → 4 * i + j ≡ m → x ≡ g (kindOf (m / 4)) (kindOf (m % 4)) → x ≡ g (kindOf k) (kindOf l)
   at-kinds m e r = at-number g i j m e (omega arith, omega arith) r ∙ ap₂ g (kind-capped k i p) (kind-capped l j q)

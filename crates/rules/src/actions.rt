@@ -1,4 +1,4 @@
-// Actions that the rules of both sweeps use.
+// Actions that the rules of the sweeps share.
 use grid::Segments;
 use sweep::Action;
 use sweep::Free;

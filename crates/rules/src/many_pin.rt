@@ -12,7 +12,7 @@ ghost use Rattle.sweep.specs.Rules.{kindOf};
 ghost use Rattle.sweep.specs.ManyPin.{chooseMany, direct, topContinues, bottomContinues, bothContinue, bothPins, byKinds};
 
 // Each pin goes direct: the bottom net up to row q, the top net down to row p.
-fn go_direct(a: Pin, b: Pin, q: u16, p: u16) -> Action
+pub(crate) fn go_direct(a: Pin, b: Pin, q: u16, p: u16) -> Action
     ensures { λ r. ⌜ r ≡ direct a b q p 0 0 ⌝ }
 {
     actions::one_gift(
@@ -23,7 +23,7 @@ fn go_direct(a: Pin, b: Pin, q: u16, p: u16) -> Action
 }
 
 // A continuing top net opposite a starting one, or opposite a continuing one where neither has two strands.
-fn top_continues(a: Pin, b: Pin, f: Free) -> Action
+pub(crate) fn top_continues(a: Pin, b: Pin, f: Free) -> Action
     ensures { λ r. ⌜ r ≡ topContinues a b f ⌝ }
 {
     if f.first < a.high {
@@ -42,7 +42,7 @@ fn top_continues(a: Pin, b: Pin, f: Free) -> Action
     )
 }
 
-fn bottom_continues(a: Pin, b: Pin, f: Free) -> Action
+pub(crate) fn bottom_continues(a: Pin, b: Pin, f: Free) -> Action
     ensures { λ r. ⌜ r ≡ bottomContinues a b f ⌝ }
 {
     if b.low < f.first {
@@ -96,7 +96,7 @@ fn both_continue(a: Pin, b: Pin, f: Free) -> Action
 }
 
 // The number of a kind; those over 3 stand for 3.
-fn kind_number(kind: u16) -> u16
+pub(crate) fn kind_number(kind: u16) -> u16
     ensures { λ r. ⌜ r ≡ min kind 3 ⌝ }
 {
     if kind < 3 { kind } else { 3 }

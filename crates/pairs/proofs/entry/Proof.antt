@@ -1,0 +1,26 @@
+use mathlib.Core.Path.{sym}
+use lib.ListN.{List·getD-eq-default}
+use borrow.Author.Needs.{needs}
+use Rattle.pairs.proofs.entry.Statement.{statement}
+use Rattle.pairs.proofs.entry.Tie as tie
+use Rattle.pairs.proofs.entry.Reads as reads
+use Rattle.pairs.proofs.entry.Lts as lts
+
+-- src/lib.rt:20:26
+mul-result : tie.Need-mul-result
+mul-result c = search needs
+
+-- src/lib.rt:20:26
+shared-slice-read-result : tie.Need-shared-slice-read-result
+shared-slice-read-result c = search needs
+
+-- src/lib.rt:16:1
+returns : tie.Need-returns
+returns c = search needs
+
+-- src/lib.rt:16:1
+returns-2 : tie.Need-returns-2
+returns-2 c = sym (List·getD-eq-default (c .before .args .table .now) 0 (c .if1 .left))
+
+pub entry-spec : {M : Type 1} → statement M
+entry-spec = tie.close (tie.spec mul-result shared-slice-read-result returns returns-2)
