@@ -2,14 +2,14 @@
 use Prim.Native.Nat.{ℕ, zero, suc, _+_, _-_, _*_, _≤_, _<_}
 use native.Mathlib.Omega.{arith}
 use native.Mathlib.Decide.{decLt, ℕ-discrete}
-use mathlib.Core.Logic.{_⊎_, inl, inr, _≢_, ⊎-elim}
+use mathlib.Core.Logic.{_≢_, ⊎-elim}
 use mathlib.Core.Path.{_≡_, refl, ap, sym, subst, _∙_}
 use mathlib.Core.List.{List}
 use lib.ListN.{length, getD, drop}
 use Rattle.grid.specs.declared.Family.{Family}
-use Rattle.grid.specs.declared.Family.the-variants.{TwoPin, ManyPin}
+use Rattle.grid.specs.declared.Family.the-variants.{TwoPin, ThreePin, ManyPin}
 use Rattle.grid.specs.Channel.{density, tracks, family, pins, rowsRefused}
-use Rattle.grid.proofs.Rows.{rows-fit, rows-more, two-density, many-density}
+use Rattle.grid.proofs.Rows.{rows-fit, rows-more, two-density, three-density, many-density}
 use Rattle.grid.proofs.Answers.{case-5}
 use Rattle.grid.proofs.Counting.{at-below}
 use Rattle.grid.proofs.Crossing.{density-few}
@@ -48,13 +48,14 @@ pub record Drawable (top bottom : List ℕ) (x : Figures) (slice : List ℕ) : T
   pub text : drawingText (x .density) (x .tracks) (x .width) slice ≡ channelText top bottom
 
 module _ (top bottom : List ℕ) where
-  -- the tracks by the density
-  tracks-by : (tracks top bottom ≡ density top bottom) ⊎ (tracks top bottom ≡ 2 * density top bottom - 1)
-  tracks-by = go (family top bottom) refl
+  -- whatever its family, a channel has 2d - 1 tracks at most
+  tracks-most : tracks top bottom ≤ 2 * density top bottom - 1
+  tracks-most = go (family top bottom) refl
     where
-      go : (f : Family) → family top bottom ≡ f → (tracks top bottom ≡ density top bottom) ⊎ (tracks top bottom ≡ 2 * density top bottom - 1)
-      go TwoPin e = inl (two-density top bottom e)
-      go ManyPin e = inr (many-density top bottom e)
+      go : (f : Family) → family top bottom ≡ f → tracks top bottom ≤ 2 * density top bottom - 1
+      go TwoPin e = omega (arith, two-density top bottom e)
+      go ThreePin e = omega (arith, three-density top bottom e)
+      go ManyPin e = omega (arith, many-density top bottom e)
 
   module _ (ok : rowsRefused top bottom 64 ≡ 0) where
     -- the rows are accepted
@@ -73,7 +74,7 @@ module _ (top bottom : List ℕ) where
     small : (tracks top bottom ≤ 127) × (width top bottom ≤ 127) × (sliceLength top bottom ≤ 32385)
     unfolding sliceLength
     small = figures-few (length top) (density top bottom) (tracks top bottom) (width top bottom) short
-        (density-few top bottom (rows-fit top bottom accepted .same)) tracks-by (width-half top bottom accepted)
+        (density-few top bottom (rows-fit top bottom accepted .same)) tracks-most (width-half top bottom accepted)
 
     -- the entries are numbers up to 256
     entries-few : (i : ℕ) → getD (layout top bottom) i 0 < 1000

@@ -2,7 +2,6 @@
 use Prim.Native.Nat.{ℕ, zero, suc, _+_, _*_, _-_, _/_, _≤_, _<_}
 use native.Mathlib.Omega.{arith}
 use native.Mathlib.Nat.{mul-le-mul}
-use mathlib.Core.Logic.{_⊎_, ⊎-elim}
 use mathlib.Core.Path.{_≡_}
 use mathlib.Core.List.{List, [], _∷_, _++_}
 use lib.ListN.{length, getD, length-append}
@@ -79,10 +78,10 @@ module _ (xs : List ℕ) (few : (i : ℕ) → getD xs i 0 < 1000) where
   drawn-room text d t w e x h l = record { room = omega (arith, drawn-size d t w x h l) }
 
 -- at most 64 columns and as many nets open at a gap: at most 127 tracks, 127 columns with the added ones, and 32,385 entries
-pub figures-few : (n d t w : ℕ) → n ≤ 64 → d ≤ n → (t ≡ d) ⊎ (t ≡ 2 * d - 1) → w ≤ n + t / 2
+pub figures-few : (n d t w : ℕ) → n ≤ 64 → d ≤ n → t ≤ 2 * d - 1 → w ≤ n + t / 2
     → (t ≤ 127) × (w ≤ 127) × ((n + t / 2) * (2 * t + 1) ≤ 32385)
 figures-few n d t w a b e l =
-    let h : t ≤ 127 = ⊎-elim (λ (f : t ≡ d). omega arith) (λ (f : t ≡ 2 * d - 1). omega arith) e in
+    let h : t ≤ 127 = omega arith in
     let x : n + t / 2 ≤ 127 = omega arith in
     let y : 2 * t + 1 ≤ 255 = omega arith in
     (h, omega arith, mul-le-mul x y)

@@ -1,5 +1,5 @@
 -- What the router's code goes by: every column's action fits its gap, the layout is a solution, and it fits the slice.
-use Prim.Native.Nat.{ℕ, _+_, _*_, _-_, _/_, _≤_}
+use Prim.Native.Nat.{ℕ, _+_, _*_, _/_, _≤_}
 use mathlib.Core.Path.{_≡_}
 use mathlib.Core.Logic.{_⊎_, inl, inr}
 use mathlib.Core.List.{List}
@@ -12,7 +12,7 @@ use Rattle.grid.specs.Channel.{tracks, rowsRefused}
 use Rattle.grid.proofs.Counting.{small-in}
 use Rattle.grid.proofs.Rows.{RowsFit, rows-fit, rows-short, pin-small}
 use Rattle.grid.proofs.OpenNets.{tracks-small}
-use Rattle.sweep.specs.Drawing.{action, gap}
+use Rattle.sweep.specs.Drawing.{gap, moveAt}
 use Rattle.sweep.specs.Drawing as Drawing
 use Rattle.sweep.specs.Working.{nobody, topNet, bottomNet, endedNet}
 use Rattle.router.specs.Answers.{width, layout, sliceLength}
@@ -21,7 +21,7 @@ use Rattle.sweep.proofs.Solved.{Enough, tracks-enough, gaps, width-most}
 use Rattle.sweep.proofs.Solved as Solved
 use Rattle.sweep.proofs.Columns.Sound.{Known, pinNet, strandNet, applies, plain}
 use Rattle.sweep.proofs.Gaps.Held.{no-more}
-use Rattle.sweep.proofs.Drawing.Sweep.{sound}
+use Rattle.sweep.proofs.Drawing.Sweep.{sound, pair-small}
 
 -- ENOUGH TRACKS for an accepted channel
 module _ (t : ℕ) (top bottom : List ℕ) (fit : RowsFit top bottom) (enough : Enough t top bottom) where
@@ -34,8 +34,10 @@ module _ (t : ℕ) (top bottom : List ℕ) (fit : RowsFit top bottom) (enough : 
   column-fits c p =
       let s = sound t top bottom fit enough c p in
       record {
-        applies = applies t (getD top c 0) (getD bottom c 0) (gap t top bottom c) (action t top bottom c (gap t top bottom c)) s small;
-        plain = plain t (getD top c 0) (getD bottom c 0) (gap t top bottom c) (action t top bottom c (gap t top bottom c)) s;
+        applies = applies t (getD top c 0) (getD bottom c 0) (gap t top bottom c) (moveAt t top bottom c .action) s small;
+        plain = plain t (getD top c 0) (getD bottom c 0) (gap t top bottom c) (moveAt t top bottom c .action) s;
+        double = pair-small t top bottom fit enough c p .0;
+        single = pair-small t top bottom fit enough c p .1;
       }
     where
       pin : (v : ℕ) → (getD top c 0 ≡ v) ⊎ (getD bottom c 0 ≡ v) → v ≤ 256

@@ -4,7 +4,9 @@
 -- Sets     the free tracks, the extended and the wide nets as sets
 -- Scans    the second lowest strand of a net
 -- Columns  the entries of a column
--- Sweeps   what the arrays and sets say of a column, and the columns drawn so far
+-- Sweeps   what the arrays and sets say of a column
+-- Doubles  the same of the mates and the unpaired double nets
+-- Steps    from one gap to the next, and the columns drawn so far
 -- Marking  the sets from one gap to the next
 -- Begin    the arrays and sets as the sweep begins, and as it ends
 -- Added    the columns added after column n
@@ -15,6 +17,8 @@ pub mod Sets
 pub mod Scans
 pub mod Columns
 pub mod Sweeps
+pub mod Doubles
+pub mod Steps
 pub mod Marking
 pub mod Begin
 pub mod Added

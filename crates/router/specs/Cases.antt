@@ -2,6 +2,7 @@
 use Prim.Native.Nat.{ℕ}
 use mathlib.Core.Path.{_≡_, refl}
 use mathlib.Core.List.{List, [], _∷_, map}
+use Rattle.grid.specs.Nets
 use Rattle.grid.specs.Channel
 use Rattle.grid.specs.Segments
 use Rattle.router.specs.declared.Figures.{Figures}
@@ -9,6 +10,8 @@ use Rattle.sweep.specs.Tracks
 use Rattle.sweep.specs.Rules
 use Rattle.sweep.specs.TwoPin
 use Rattle.sweep.specs.ManyPin
+use Rattle.sweep.specs.Pairs
+use Rattle.sweep.specs.ThreePin
 use Rattle.sweep.specs.Drawing
 use Rattle.router.specs.Answers
 use Rattle.router.specs.Answers.{layout, answer, numberOf, figuresOf}
@@ -50,11 +53,13 @@ computed c =
 -- Naming this on an `unfolding` line opens every definition of the sweeps, so that a closed channel computes
 unfoldable pub computing : Unit {0}
 unfolding Channel.times Channel.over Channel.sum Channel.count Channel.left Channel.right Channel.isOpen Channel.openAt Channel.largest Channel.density
-    Channel.pins Channel.pinsWithin Channel.family Channel.tracks Channel.rowsRefused Tracks.strandsFrom Tracks.strands Tracks.first Tracks.last Tracks.lowest Tracks.second
+    Channel.pins Channel.pinsWithin Channel.firstTwoAt Channel.firstTwoTo Channel.family Nets.isPinned Nets.lastTo Nets.lastColumn Channel.tracks Channel.rowsRefused Tracks.strandsFrom Tracks.strands Tracks.first Tracks.last Tracks.lowest Tracks.second
     Tracks.highest Tracks.many Tracks.lesser Tracks.lowestNet Tracks.give Tracks.clear Tracks.after Segments.segment Tracks.valuesFrom Tracks.verticals
     Rules.kindOf Rules.bothEnd TwoPin.joinOr TwoPin.byKinds TwoPin.chooseTwo ManyPin.topContinues ManyPin.bottomContinues ManyPin.bothContinue
-    ManyPin.byKinds ManyPin.bothPins ManyPin.chooseMany Drawing.freeOf Drawing.later Drawing.pinAt Drawing.extendedAt Drawing.wideAt Drawing.extendedNet
-    Drawing.netToJoin Drawing.jointOf Drawing.actionOf Drawing.action Drawing.gap Drawing.drawn Drawing.remains Drawing.rest Drawing.joining Drawing.added Drawing.width
+    ManyPin.byKinds ManyPin.bothPins ManyPin.chooseMany Pairs.noMates Pairs.unpair Pairs.pairUp Pairs.latestTo ThreePin.threeWay ThreePin.eitherEnds ThreePin.joinElse ThreePin.bothGoOn
+    ThreePin.topStarts ThreePin.bottomStarts ThreePin.bothStart ThreePin.topGoesOn ThreePin.bottomGoesOn ThreePin.byKinds ThreePin.chooseThree Drawing.freeOf Drawing.later Drawing.pinAt Drawing.extendedAt Drawing.wideAt Drawing.extendedNet
+    Drawing.netToJoin Drawing.jointOf Drawing.loneDouble Drawing.latestDouble Drawing.otherDouble Drawing.doubleOf Drawing.endOf Drawing.endingAt Drawing.matesAfter Drawing.moveOf
+    Drawing.move Drawing.state Drawing.moveAt Drawing.drawn Drawing.remains Drawing.rest Drawing.joining Drawing.added Drawing.width
     Drawing.layout Answers.sliceLength Answers.refused Answers.figures Answers.answer
 computing = tt
 

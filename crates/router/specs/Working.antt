@@ -2,22 +2,28 @@
 use Prim.Native.Nat.{ℕ, _+_, _*_, _%_, _≤_, _<_}
 use mathlib.Core.Path.{_≡_}
 use mathlib.Core.List.{List, _++_}
-use mathlib.Core.Logic.{_⊎_}
-use mathlib.Core.Bool.{Bool, true, false, not, _&&_}
+use mathlib.Core.Logic.{_≢_, _⊎_}
+use mathlib.Core.Bool.{Bool, true, false, not, _&&_, _||_}
 use lib.Dec.{eqb, ltb, leb}
 use lib.ListN.{take, drop, getD, length, replicate}
 use Rattle.grid.specs.Channel.{pick, left, family}
 use Rattle.grid.specs.Working.{ByNet}
 use Rattle.grid.specs.declared.Family.{Family}
-use Rattle.grid.specs.declared.Family.the-variants.{TwoPin, ManyPin}
+use Rattle.grid.specs.declared.Segments.{Segments}
+use Rattle.grid.specs.declared.Family.the-variants.{TwoPin, ThreePin, ManyPin}
 use Rattle.sets.specs.Member.{member, LowestFrom}
 use Rattle.sweep.specs.declared.Action.{Action}
 use Rattle.sweep.specs.declared.Pin.{Pin}
 use Rattle.sweep.specs.declared.Free.{Free}
 use Rattle.sweep.specs.declared.Joint.{Joint}
+use Rattle.sweep.specs.declared.Double.{Double}
 use Rattle.sweep.specs.Tracks.{lowest, second, highest, many, clear, verticals}
+use Rattle.sweep.specs.declared.Move.{Move}
+use Rattle.sweep.specs.Pairs.{latestTo}
 use Rattle.sweep.specs.TwoPin.{chooseTwo}
-use Rattle.sweep.specs.Drawing.{kindBy, noPin, noJoint, freeOf, later, action, gap, drawn, joining, remains}
+use Rattle.sweep.specs.ThreePin.{chooseThree}
+use Rattle.sweep.specs.Drawing.{kindBy, noPin, noJoint, freeOf, later, endOf, matesAfter, state, gap, moveAt, drawn, joining, remains}
+use Rattle.pairs.specs.Working.{LoneAt, LeastAbove, butFor, doubleBy}
 use Rattle.sweep.specs.Working.{Applies, Plain}
 
 -- the tracks 1 to t of an array that holds track y at index y
@@ -67,6 +73,7 @@ pub record Holds (t : ℕ) (tr a f low high number : List ℕ) : Type 0 where
 pub record Spans (top bottom first last : List ℕ) : Type 0 where
   pub before : (c v : ℕ) → 0 < v → v ≤ 256 → ltb 0 (left top bottom c v) ≡ (not (eqb (getD first v 0) 0) && leb (getD first v 0) c)
   pub after : (c v : ℕ) → v ≤ 256 → later top bottom c v ≡ ltb c (getD last v 0)
+  pub ends : (v : ℕ) → v ≤ 256 → getD last v 0 ≡ endOf top bottom v
 
 -- two rows of as many columns, with numbers up to 256; last holds each net's last column
 pub record RowsAndLasts (top bottom last : List ℕ) : Type 0 where
@@ -98,7 +105,14 @@ wideBy last number c v = not (eqb v 0) && (ltb c (getD last v 0) && ltb 2 (getD 
 -- open nets have two strands at most in the sweep of a family, so that none is wide
 abbrev pub narrow : Family → Bool
 narrow TwoPin = true
+narrow ThreePin = true
 narrow ManyPin = false
+
+-- pairs of nets are formed in the sweep of a family
+abbrev pub forms : Family → Bool
+forms TwoPin = false
+forms ThreePin = true
+forms ManyPin = false
 
 -- net v is marked as it is at gap c: it is in the set s of extended nets where it is extended, and in w where it is wide; w is kept only where open
 -- nets may have three strands
@@ -141,6 +155,19 @@ IsLowestJoint last low high s tr c r = (N : Joint) → LowestJoint last low high
 abbrev pub ChosenTwo : (t : ℕ) (A B : Pin) (last low high s tr : List ℕ) (c : ℕ) (x : Action) → Type 0
 ChosenTwo t A B last low high s tr c x = (N : Joint) → LowestJoint last low high s tr c N → x ≡ chooseTwo t A B (freeOf tr) N
 
+-- D is the one of the set l that ends last, as a double net, and M the lowest other one
+abbrev pub LatestIn : (last low high l : List ℕ) (D : Double) → Type 0
+LatestIn last low high l D = doubleBy last low high (latestTo (λ v. getD last v 0) (member l) 511) ≡ D
+
+abbrev pub OtherIn : (last low high l : List ℕ) (M : Double) → Type 0
+OtherIn last low high l M = (v : ℕ) → LeastAbove (butFor l (latestTo (λ v. getD last v 0) (member l) 511)) 0 v → doubleBy last low high v ≡ M
+
+-- x is what a column with the pins A and B of a three-pin channel does, with the net of rule 2 and these
+abbrev pub ChosenThree : (t : ℕ) (A B : Pin) (last low high s l tr : List ℕ) (c : ℕ) (x : Move) → Type 0
+ChosenThree t A B last low high s l tr c x =
+    (N : Joint) (D M : Double) → LowestJoint last low high s tr c N → LatestIn last low high l D → OtherIn last low high l M
+    → x ≡ chooseThree t A B (getD last (A .net) 0) (getD last (B .net) 0) (freeOf tr) N D M
+
 -- what the sweep of a channel of a family goes by
 pub record Ready (top bottom first last : List ℕ) (t : ℕ) (fam : Family) : Type 0 where
   pub is : family top bottom ≡ fam
@@ -151,6 +178,10 @@ pub record Ready (top bottom first last : List ℕ) (t : ℕ) (fam : Family) : T
   pub bottoms : (j : ℕ) → getD bottom j 0 ≤ 256
   pub spans : Spans top bottom first last
 
+-- a column is flat: its bottom net, if it has one, reaches up to row start, and its middle net, if it has one, up to row high
+abbrev pub isFlat : Segments → Bool
+isFlat w = (eqb (w .bottom) 0 || leb (w .start) (w .low)) && (eqb (w .middle) 0 || leb (w .high) (w .stop))
+
 -- the vertical edges of a flat column are three runs: net q below row a, m from there to row b, p above
 abbrev pub runs : (q a m b p k : ℕ) → ℕ
 runs q a m b p k = pick (ltb k a) q (pick (ltb k b) m p)
@@ -159,14 +190,16 @@ runs q a m b p k = pick (ltb k a) q (pick (ltb k b) m p)
 abbrev pub twoRuns : (q a p k : ℕ) → ℕ
 twoRuns q a p k = pick (ltb k a) q p
 
--- the action x of column c + 1 gives free tracks, and names the column's nets alone
-pub record Fitting (top bottom : List ℕ) (c : ℕ) (x : Action) (tr : List ℕ) : Type 0 where
-  pub applies : Applies x tr
-  pub plain : Plain (getD top c 0) (getD bottom c 0) x
+-- the move x of column c + 1 gives free tracks, names the column's nets alone, and pairs nets numbered up to 256
+pub record Fitting (top bottom : List ℕ) (c : ℕ) (x : Move) (tr : List ℕ) : Type 0 where
+  pub applies : Applies (x .action) tr
+  pub plain : Plain (getD top c 0) (getD bottom c 0) (x .action)
+  pub double : x .double ≤ 256
+  pub single : x .single ≤ 256
 
--- the sweep's action of column c + 1 does
+-- the sweep's move of column c + 1 does
 abbrev pub FitsAt : ℕ → List ℕ → List ℕ → ℕ → Type 0
-FitsAt t top bottom c = Fitting top bottom c (action t top bottom c (gap t top bottom c)) (gap t top bottom c)
+FitsAt t top bottom c = Fitting top bottom c (moveAt t top bottom c) (gap t top bottom c)
 
 -- and so in each column
 abbrev pub EachFits : ℕ → List ℕ → List ℕ → Type 0
@@ -177,9 +210,28 @@ pub record Keeps (last : List ℕ) (t : ℕ) (fam : Family) (c : ℕ) (tr a f lo
   pub holds : Holds t tr a f low high number
   pub marked : Marked last number c s w fam
 
+-- in the sweep of a family that forms pairs, the mates are m, numbered up to 256, and l is the set of the unpaired double nets
+pub record Mated (fam : Family) (m number mates l : List ℕ) : Type 0 where
+  pub is : forms fam ≡ true → mates ≡ m
+  pub small : forms fam ≡ true → (j : ℕ) → getD mates j 0 ≤ 256
+  pub lone : forms fam ≡ true → (v : ℕ) → LoneAt number mates l v
+
+-- the mates are numbered up to 256, and l tells of all nets but a, p and q whether they are unpaired double nets
+pub record OthersTold (number mates l : List ℕ) (a p q : ℕ) : Type 0 where
+  pub small : (j : ℕ) → getD mates j 0 ≤ 256
+  pub none : member l 0 ≡ false
+  pub others : (j : ℕ) → j ≢ a → j ≢ p → j ≢ q → LoneAt number mates l j
+
+-- the mates after column c + 1 and its move x, where they were m, and the set of the unpaired double nets
+pub record PairsSettled (top bottom : List ℕ) (c : ℕ) (x : Move) (number m mates l : List ℕ) : Type 0 where
+  pub is : mates ≡ matesAfter top bottom c x m
+  pub small : (j : ℕ) → getD mates j 0 ≤ 256
+  pub lone : (v : ℕ) → LoneAt number mates l v
+
 -- the arrays and sets hold gap c of the sweep
-abbrev pub AtGap : (top bottom last : List ℕ) (t : ℕ) (fam : Family) (c : ℕ) (a f low high number s w : List ℕ) → Type 0
-AtGap top bottom last t fam c a f low high number s w = Keeps last t fam c (gap t top bottom c) a f low high number s w
+pub record AtGap (top bottom last : List ℕ) (t : ℕ) (fam : Family) (c : ℕ) (a f low high number s w mates l : List ℕ) : Type 0 where
+  pub keeps : Keeps last t fam c (gap t top bottom c) a f low high number s w
+  pub mated : Mated fam (state t top bottom c .mates) number mates l
 
 -- the layout l, which was l₀, begins with the columns 1 to c of the sweep, each 2t + 1 entries
 pub record DrawnTo (top bottom : List ℕ) (t c : ℕ) (l₀ l : List ℕ) : Type 0 where

@@ -1,4 +1,4 @@
-// Rule 2 of two-pin channels, which asks for the free tracks only where there is no net to join. The other rules of two-pin channels are in columns.rt.
+// Rule 2 of two-pin channels, which asks for the free tracks only where there is no net to join. The other rules of two-pin channels are in moves.rt.
 use crate::nets;
 use rules::actions;
 use sweep::Action;

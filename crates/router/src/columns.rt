@@ -1,132 +1,68 @@
 // The columns 1 to n.
-use crate::choose;
 use crate::index;
+use crate::moves;
 use crate::nets;
-use crate::pins;
 use crate::writer;
 use grid::Family;
-use rules::actions;
-use rules::many_pin;
 use sweep::Action;
-use sweep::Joint;
-use sweep::Pin;
+use sweep::Move;
 ghost use mathlib.Core.Path.{_≡_};
-ghost use Prim.Native.Nat.{ℕ, _+_, _*_, _<_, _≤_};
-ghost use lib.ListN.{length};
+ghost use mathlib.Core.Bool.{true};
+ghost use Prim.Native.Nat.{_+_, _*_, _<_, _≤_};
+ghost use lib.ListN.{length, getD};
 ghost use Rattle.sweep.specs.Tracks.{after};
-ghost use Rattle.sweep.specs.Drawing.{action, gap};
-ghost use Rattle.router.specs.Working.{tracksIn, Frees, LowsAndHighs, Next, IsLowestJoint, ChosenTwo, RowsAndLasts, Ready, Fitting};
-ghost use Rattle.router.specs.Working.{FitsAt, EachFits, Keeps, AtGap, DrawnTo};
+ghost use Rattle.sweep.specs.Drawing.{moveAt, matesAfter};
+ghost use Rattle.router.specs.Working.{tracksIn, RowsAndLasts, Ready, Fitting, FitsAt, EachFits, Keeps, Mated, AtGap, DrawnTo, forms, OthersTold, PairsSettled};
 
-// The net that rule 2 of a two-pin channel joins in column c + 1: the lowest of the extended ones.
-fn lowest_joint(
-    tracks: &[u16; 512],
-    last: &[u16; 257],
-    low: &[u16; 257],
-    high: &[u16; 257],
-    extended: &[u64; 8],
-    t: usize,
-    c: u16,
-) -> Joint
-    requires { ⌜ (t ≤ 511) × (length (now tracks) ≡ 512) × (c < 256) ⌝ }
-    requires { ⌜ LowsAndHighs (now low) (now high) (tracksIn t (now tracks)) ⌝ }
-    requires { ⌜ ((v : ℕ) → Next (now extended) 0 v → v ≤ 256) ⌝ }
-    ensures { λ r. ⌜ IsLowestJoint (now (last .entry)) (now (low .entry)) (now (high .entry)) (now (extended .entry))
-        (tracksIn t (now (tracks .entry))) c r ⌝ }
+// Whether pairs of nets are formed in the sweep of a family.
+fn forms_pairs(family: Family) -> bool
+    ensures { λ r. ⌜ r ≡ forms family ⌝ }
 {
-    nets::joint_at(tracks, last, low, high, t, c, nets::lowest_net(extended))
-}
-
-// What column c + 1 of a two-pin channel does; only starting pins ask for the free tracks and the net of rule 2.
-fn pair_column(
-    a: Pin,
-    b: Pin,
-    c: u16,
-    tracks: &[u16; 512],
-    free: &[u64; 8],
-    last: &[u16; 257],
-    low: &[u16; 257],
-    high: &[u16; 257],
-    extended: &[u64; 8],
-    t: usize,
-) -> Action
-    requires { ⌜ (a .kind ≤ 3) × (b .kind ≤ 3) × (c < 256) × (t ≤ 511) × (length (now tracks) ≡ 512) × Frees t (now tracks) (now free) ⌝ }
-    requires { ⌜ LowsAndHighs (now low) (now high) (tracksIn t (now tracks)) ⌝ }
-    requires { ⌜ ((v : ℕ) → Next (now extended) 0 v → v ≤ 256) ⌝ }
-    ensures { λ r. ⌜ ChosenTwo t a b (now (last .entry)) (now (low .entry)) (now (high .entry)) (now (extended .entry))
-        (tracksIn t (now (tracks .entry))) c r ⌝ }
-{
-    if (a.net != 0) & (a.net == b.net) {
-        return actions::go_full(t as u16 + 1, a.net, 0);
-    }
-    match 4 * a.kind + b.kind {
-        0 => actions::go_straight(),
-        1 => choose::bottom_starts(
-            a,
-            b,
-            free,
-            lowest_joint(tracks, last, low, high, extended, t, c),
-        ),
-        3 => actions::bottom_ends(a, b),
-        4 => choose::top_starts(
-            a,
-            b,
-            free,
-            lowest_joint(tracks, last, low, high, extended, t, c),
-        ),
-        5 => choose::both_start(
-            a,
-            b,
-            free,
-            lowest_joint(tracks, last, low, high, extended, t, c),
-        ),
-        7 => actions::bottom_ends(a, b),
-        12 => actions::top_ends(a, b),
-        13 => actions::top_ends(a, b),
-        15 => actions::both_end(a, b),
-        // No pin of a two-pin net continues.
-        _ => actions::go_straight(),
+    match family {
+        Family::TwoPin => false,
+        Family::ThreePin => true,
+        Family::ManyPin => false,
     }
 }
 
-// What column c + 1 does; by the sweep of its family.
-fn column_at(
+// The pairs after column c + 1 and its move x, where the sweep of the family forms any.
+fn settle_pairs(
     top: &[u16],
     bottom: &[u16],
     c: usize,
-    first: &[u16; 257],
     last: &[u16; 257],
-    tracks: &[u16; 512],
-    free: &[u64; 8],
-    low: &[u16; 257],
-    high: &[u16; 257],
     many: &[u16; 257],
-    extended: &[u64; 8],
-    wide: &[u64; 8],
-    t: usize,
+    mates: &mut [u16; 257],
+    lone: &mut [u64; 8],
     family: Family,
-) -> Action
+    x: Move,
+)
     requires { ⌜ c < length (now top) ⌝ }
-    requires { ⌜ Ready (now top) (now bottom) (now first) (now last) t family ⌝ }
-    requires { ⌜ Keeps (now last) t family c (tracksIn t (now tracks)) (now tracks) (now free) (now low) (now high) (now many) (now extended) (now wide) ⌝ }
-    ensures { λ r. ⌜ r ≡ action t (now (top .entry)) (now (bottom .entry)) c (tracksIn t (now (tracks .entry))) ⌝ }
+    requires { ⌜ RowsAndLasts (now top) (now bottom) (now last) ⌝ }
+    requires { ⌜ (x .action .ended ≤ 256) × (x .double ≤ 256) × (x .single ≤ 256) ⌝ }
+    requires { ⌜ (forms family ≡ true → OthersTold (now many) (now mates) (now lone) (x .action .ended) (getD (now top) c 0) (getD (now bottom) c 0)) ⌝ }
+    ensures { λ _. ⌜ (forms family ≡ true → PairsSettled (now (top .entry)) (now (bottom .entry)) c x (now (many .entry)) (now (mates .entry))
+        (now (mates .exit)) (now (lone .exit))) ⌝ }
 {
-    let k = c as u16;
-    let p = top[c];
-    let a = pins::pin_at(first, last, low, high, many, k, p);
-    let b = pins::pin_at(first, last, low, high, many, k, bottom[c]);
-    match family {
-        Family::TwoPin => pair_column(a, b, k, tracks, free, last, low, high, extended, t),
-        Family::ManyPin => {
-            let f = nets::free_tracks(free);
-            let v = nets::net_to_join(extended, wide);
-            let n = nets::joint_at(tracks, last, low, high, t, k, v);
-            many_pin::choose_many(t as u16 + 1, a, b, f, n, pins::later_than(last, k, p))
-        }
+    if forms_pairs(family) {
+        let k = c as u16 + 1;
+        let y = x.action;
+        pairs::renew(
+            last,
+            many,
+            mates,
+            lone,
+            k,
+            y.ended,
+            top[c],
+            bottom[c],
+            x.double,
+            x.single,
+        );
     }
 }
 
-// Applies the action x of column c + 1 and marks the nets of the column, whatever the tracks in its gap are.
+// Applies the move x of column c + 1 and marks the nets of the column, whatever the tracks in its gap are.
 pub(crate) fn settle(
     top: &[u16],
     bottom: &[u16],
@@ -139,18 +75,23 @@ pub(crate) fn settle(
     many: &mut [u16; 257],
     extended: &mut [u64; 8],
     wide: &mut [u64; 8],
+    mates: &mut [u16; 257],
+    lone: &mut [u64; 8],
     t: usize,
     family: Family,
-    x: Action,
+    x: Move,
 )
     requires { ⌜ c < length (now top) ⌝ }
     requires { ⌜ RowsAndLasts (now top) (now bottom) (now last) ⌝ }
     requires { ⌜ Keeps (now last) t family c (tracksIn t (now tracks)) (now tracks) (now free) (now low) (now high) (now many) (now extended) (now wide) ⌝ }
-    requires { ⌜ (x ≡ action t (now top) (now bottom) c (tracksIn t (now tracks))) × Fitting (now top) (now bottom) c x (tracksIn t (now tracks)) ⌝ }
-    ensures { λ _. ⌜ Keeps (now (last .entry)) t family (c + 1) (after x (tracksIn t (now (tracks .entry)))) (now (tracks .exit)) (now (free .exit))
+    requires { ⌜ Mated family (now mates) (now many) (now mates) (now lone) × Fitting (now top) (now bottom) c x (tracksIn t (now tracks)) ⌝ }
+    ensures { λ _. ⌜ Keeps (now (last .entry)) t family (c + 1) (after (x .action) (tracksIn t (now (tracks .entry)))) (now (tracks .exit)) (now (free .exit))
         (now (low .exit)) (now (high .exit)) (now (many .exit)) (now (extended .exit)) (now (wide .exit)) ⌝ }
+    ensures { λ _. ⌜ Mated family (matesAfter (now (top .entry)) (now (bottom .entry)) c x (now (mates .entry))) (now (many .exit)) (now (mates .exit))
+        (now (lone .exit)) ⌝ }
 {
-    index::apply(tracks, free, low, high, many, t, x);
+    let y = x.action;
+    index::apply(tracks, free, low, high, many, t, y);
     let k = c as u16 + 1;
     nets::mark_three(
         last,
@@ -158,14 +99,15 @@ pub(crate) fn settle(
         extended,
         wide,
         k,
-        x.ended,
+        y.ended,
         top[c],
         bottom[c],
         family,
     );
+    settle_pairs(top, bottom, c, last, many, mates, lone, family, x);
 }
 
-// One column of the sweep without its drawing: chooses the action of column c + 1, applies it and marks the nets.
+// One column of the sweep without its drawing: chooses the move of column c + 1, applies it and marks the nets. The answer is the action.
 pub(crate) fn advance(
     top: &[u16],
     bottom: &[u16],
@@ -179,18 +121,21 @@ pub(crate) fn advance(
     many: &mut [u16; 257],
     extended: &mut [u64; 8],
     wide: &mut [u64; 8],
+    mates: &mut [u16; 257],
+    lone: &mut [u64; 8],
     t: usize,
     family: Family,
 ) -> Action
     requires { ⌜ c < length (now top) ⌝ }
     requires { ⌜ Ready (now top) (now bottom) (now first) (now last) t family ⌝ }
     requires { ⌜ FitsAt t (now top) (now bottom) c ⌝ }
-    requires { ⌜ AtGap (now top) (now bottom) (now last) t family c (now tracks) (now free) (now low) (now high) (now many) (now extended) (now wide) ⌝ }
-    ensures { λ r. ⌜ r ≡ action t (now (top .entry)) (now (bottom .entry)) c (gap t (now (top .entry)) (now (bottom .entry)) c) ⌝ }
+    requires { ⌜ AtGap (now top) (now bottom) (now last) t family c (now tracks) (now free) (now low) (now high) (now many) (now extended) (now wide)
+        (now mates) (now lone) ⌝ }
+    ensures { λ r. ⌜ r ≡ moveAt t (now (top .entry)) (now (bottom .entry)) c .action ⌝ }
     ensures { λ _. ⌜ AtGap (now (top .entry)) (now (bottom .entry)) (now (last .entry)) t family (c + 1) (now (tracks .exit)) (now (free .exit))
-        (now (low .exit)) (now (high .exit)) (now (many .exit)) (now (extended .exit)) (now (wide .exit)) ⌝ }
+        (now (low .exit)) (now (high .exit)) (now (many .exit)) (now (extended .exit)) (now (wide .exit)) (now (mates .exit)) (now (lone .exit)) ⌝ }
 {
-    let x = column_at(
+    let x = moves::column_at(
         top,
         bottom,
         c,
@@ -203,6 +148,8 @@ pub(crate) fn advance(
         many,
         extended,
         wide,
+        mates,
+        lone,
         t,
         family,
     );
@@ -218,11 +165,13 @@ pub(crate) fn advance(
         many,
         extended,
         wide,
+        mates,
+        lone,
         t,
         family,
         x,
     );
-    x
+    x.action
 }
 
 // Draws the columns 1 to n.
@@ -239,15 +188,19 @@ pub(crate) fn sweep_columns(
     many: &mut [u16; 257],
     extended: &mut [u64; 8],
     wide: &mut [u64; 8],
+    mates: &mut [u16; 257],
+    lone: &mut [u64; 8],
     t: usize,
     family: Family,
 )
     requires { ⌜ Ready (now top) (now bottom) (now first) (now last) t family ⌝ }
     requires { ⌜ EachFits t (now top) (now bottom) ⌝ }
-    requires { ⌜ AtGap (now top) (now bottom) (now last) t family 0 (now tracks) (now free) (now low) (now high) (now many) (now extended) (now wide) ⌝ }
+    requires { ⌜ AtGap (now top) (now bottom) (now last) t family 0 (now tracks) (now free) (now low) (now high) (now many) (now extended) (now wide)
+        (now mates) (now lone) ⌝ }
     requires { ⌜ length (now top) * (2 * t + 1) ≤ length (now layout) ⌝ }
     ensures { λ _. ⌜ AtGap (now (top .entry)) (now (bottom .entry)) (now (last .entry)) t family (length (now (top .entry))) (now (tracks .exit))
-        (now (free .exit)) (now (low .exit)) (now (high .exit)) (now (many .exit)) (now (extended .exit)) (now (wide .exit)) ⌝ }
+        (now (free .exit)) (now (low .exit)) (now (high .exit)) (now (many .exit)) (now (extended .exit)) (now (wide .exit)) (now (mates .exit))
+        (now (lone .exit)) ⌝ }
     ensures { λ _. ⌜ DrawnTo (now (top .entry)) (now (bottom .entry)) t (length (now (top .entry))) (now (layout .entry)) (now (layout .exit)) ⌝ }
 {
     let each = 2 * t + 1;
@@ -267,6 +220,8 @@ pub(crate) fn sweep_columns(
             many,
             extended,
             wide,
+            mates,
+            lone,
             t,
             family,
         );

@@ -1,8 +1,9 @@
-// The router: rows and a lent slice in, a drawing on d or 2d - 1 tracks out.
+// The router: rows and a lent slice in, a drawing out, on d, 3d/2 or 2d - 1 tracks by the channel's family.
 mod added;
 mod choose;
 mod columns;
 mod index;
+mod moves;
 mod nets;
 mod pins;
 mod writer;
@@ -77,6 +78,8 @@ fn draw(
     let mut many = no_nets();
     let mut extended = sets::empty();
     let mut wide = sets::empty();
+    let mut mates = no_nets();
+    let mut lone = sets::empty();
     let n = top.len();
     columns::sweep_columns(
         top,
@@ -91,6 +94,8 @@ fn draw(
         &mut many,
         &mut extended,
         &mut wide,
+        &mut mates,
+        &mut lone,
         t,
         family,
     );
@@ -114,6 +119,7 @@ fn tracks_of(family: Family, d: usize) -> usize
 {
     match family {
         Family::TwoPin => d,
+        Family::ThreePin => 3 * d / 2,
         Family::ManyPin => less_one(2 * d),
     }
 }

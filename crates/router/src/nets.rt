@@ -139,6 +139,7 @@ fn is_narrow(family: Family) -> bool
 {
     match family {
         Family::TwoPin => true,
+        Family::ThreePin => true,
         Family::ManyPin => false,
     }
 }

@@ -1,13 +1,14 @@
 // One column of the layout.
 use crate::index;
+use grid::Segments;
 use sweep::Action;
 ghost use mathlib.Core.Path.{_≡_};
 ghost use Prim.Native.Nat.{_+_, _*_, _≤_};
 ghost use lib.ListN.{length, take, drop};
 ghost use mathlib.Core.List.{_++_};
+ghost use Rattle.grid.specs.Segments.{segment};
 ghost use Rattle.sweep.specs.Tracks.{valuesFrom, verticals};
-ghost use Rattle.sweep.specs.Working.{Flat};
-ghost use Rattle.router.specs.Working.{tracksIn, runs, twoRuns};
+ghost use Rattle.router.specs.Working.{tracksIn, isFlat, runs, twoRuns};
 
 // The vertical edge between the rows k and k + 1: of net q below row a, of net m from there to row b, of net p above.
 fn vertical_at(k: u16, q: u16, a: u16, m: u16, b: u16, p: u16) -> u16
@@ -24,6 +25,29 @@ fn vertical_of_two(k: u16, q: u16, a: u16, p: u16) -> u16
     ensures { λ r. ⌜ r ≡ twoRuns q a p k ⌝ }
 {
     if k < a { q } else { p }
+}
+
+// The same edge of any column: five segments.
+fn segment_at(k: u16, w: Segments) -> u16
+    ensures { λ r. ⌜ r ≡ segment w k ⌝ }
+{
+    if k < w.low {
+        return w.bottom;
+    }
+    if k < w.start {
+        return 0;
+    }
+    if k < w.stop {
+        return w.middle;
+    }
+    if k < w.high { 0 } else { w.top }
+}
+
+// Whether a column is flat: its five segments are three runs at most.
+fn is_flat(w: Segments) -> bool
+    ensures { λ r. ⌜ r ≡ isFlat w ⌝ }
+{
+    ((w.bottom == 0) | (w.start <= w.low)) & ((w.middle == 0) | (w.high <= w.stop))
 }
 
 // Writes the vertical edges of a column with two nets.
@@ -54,12 +78,30 @@ fn write_three(part: &mut [u16], t: usize, q: u16, a: u16, m: u16, b: u16, p: u1
     }
 }
 
-// Writes the vertical edges of a column; the middle net has none where a and b are the same row.
+// Writes those of any column.
+fn write_five(part: &mut [u16], t: usize, w: Segments)
+    requires { ⌜ (t ≤ 511) × (length (now part) ≡ 2 * t + 1) ⌝ }
+    ensures { λ _. ⌜ now (part .exit) ≡ valuesFrom (t + 1) 0 (segment w) ++ drop (t + 1) (now (part .entry)) ⌝ }
+{
+    let mut i = 0;
+    let mut k = 0u16;
+    while i <= t {
+        part[i] = segment_at(k, w);
+        i += 1;
+        k += 1;
+    }
+}
+
+// Writes the vertical edges of a column. A flat one has no gaps between its nets: the middle net has no edges where a and b are the same row.
 fn write_verticals(part: &mut [u16], t: usize, x: Action)
-    requires { ⌜ (t ≤ 511) × (length (now part) ≡ 2 * t + 1) × Flat (x .wires) ⌝ }
+    requires { ⌜ (t ≤ 511) × (length (now part) ≡ 2 * t + 1) ⌝ }
     ensures { λ _. ⌜ now (part .exit) ≡ verticals t x ++ drop (t + 1) (now (part .entry)) ⌝ }
 {
     let w = x.wires;
+    if !is_flat(w) {
+        write_five(part, t, w);
+        return;
+    }
     let a = index::greater_of(w.low, w.start);
     let b = index::greater_of(w.stop, w.high);
     if a == b {
@@ -83,7 +125,7 @@ fn copy_tracks(part: &mut [u16], tracks: &[u16; 512], t: usize)
 
 // Writes a column: its vertical edges, and the tracks that leave it.
 pub(crate) fn write_column(part: &mut [u16], tracks: &[u16; 512], t: usize, x: Action)
-    requires { ⌜ (t ≤ 511) × (length (now part) ≡ 2 * t + 1) × (length (now tracks) ≡ 512) × Flat (x .wires) ⌝ }
+    requires { ⌜ (t ≤ 511) × (length (now part) ≡ 2 * t + 1) × (length (now tracks) ≡ 512) ⌝ }
     ensures { λ _. ⌜ now (part .exit) ≡ verticals t x ++ tracksIn t (now (tracks .entry)) ⌝ }
 {
     write_verticals(part, t, x);

@@ -14,8 +14,10 @@ use Rattle.grid.specs.Working.{ByNet}
 use Rattle.sets.specs.Member.{member}
 use Rattle.sweep.specs.Tracks.{strands, first, last, lowest, highest, many}
 use Rattle.sweep.specs.Drawing
-use Rattle.sweep.specs.Drawing.{gap, remains}
-use Rattle.router.specs.Working.{tracksIn, Frees, Holds, Spans, Marked, AtGap, Remaining, extendedBy, wideBy, blank, noNets}
+use Rattle.sweep.specs.Drawing.{state, gap, remains}
+use Rattle.sweep.specs.Pairs.{noMates}
+use Rattle.pairs.specs.Working.{loneBy}
+use Rattle.router.specs.Working.{tracksIn, Frees, Holds, Spans, Marked, Mated, AtGap, Remaining, extendedBy, wideBy, blank, noNets}
 use Rattle.grid.proofs.Counting.{zeros}
 use Rattle.sweep.proofs.Tracks.Changed.{no-strands}
 use Rattle.router.proofs.Laws.Sweeps.{on-small}
@@ -35,7 +37,7 @@ none-indexed g e t n en = record { size = length-replicate {A = ℕ} n 0 ∙ en;
 -- blank arrays hold gap 0
 blank-holds : (top bottom : List ℕ) (t : ℕ) (a f l h n : List ℕ) → t ≤ 511 → a ≡ blank → Frees t blank f → l ≡ noNets → h ≡ noNets → n ≡ noNets
     → Holds t (gap t top bottom 0) a f l h n
-unfolding gap blank noNets lowest highest many first last
+unfolding state blank noNets lowest highest many first last
 blank-holds top bottom t a f l h n b ea fr el eh en =
     rw (ea, el, eh, en)
     (record {
@@ -59,11 +61,24 @@ none-marked last n s w fam en hs hw v =
       wide = λ _. hw v ∙ sym (rw z (ap (λ (y : Bool). not (eqb v 0) && y) (and-none (ltb 0 (getD last v 0)) false refl) ∙ and-none (not (eqb v 0)) false refl));
     }
 
+-- no net has a mate, and none is double
+none-mated : (top bottom : List ℕ) (t : ℕ) (fam : Family) (n m q : List ℕ) → n ≡ noNets → m ≡ noNets → ((k : ℕ) → member q k ≡ false)
+    → Mated fam (state t top bottom 0 .mates) n m q
+unfolding state noMates noNets loneBy
+none-mated top bottom t fam n m q en em hq = record {
+  is = λ z. em;
+  small = λ z j. omega (arith, ap (λ (l : List ℕ). getD l j 0) em ∙ zeros 257 j);
+  lone = λ z v. hq v ∙ sym (rw (ap (λ (l : List ℕ). getD l v 0) en ∙ zeros 257 v) (and-none (not (eqb v 0)) false refl));
+}
+
 -- so the sweep begins
-pub begins : (top bottom last : List ℕ) (t : ℕ) (fam : Family) (a f l h n s w : List ℕ) → t ≤ 511 → a ≡ blank → Frees t blank f → l ≡ noNets → h ≡ noNets → n ≡ noNets
-    → ((k : ℕ) → member s k ≡ false) → ((k : ℕ) → member w k ≡ false) → AtGap top bottom last t fam 0 a f l h n s w
-begins top bottom last t fam a f l h n s w b ea fr el eh en hs hw =
-    record { holds = blank-holds top bottom t a f l h n b ea fr el eh en; marked = none-marked last n s w fam en hs hw }
+pub begins : (top bottom last : List ℕ) (t : ℕ) (fam : Family) (a f l h n s w m q : List ℕ) → t ≤ 511 → a ≡ blank → Frees t blank f → l ≡ noNets → h ≡ noNets → n ≡ noNets
+    → ((k : ℕ) → member s k ≡ false) → ((k : ℕ) → member w k ≡ false) → m ≡ noNets → ((k : ℕ) → member q k ≡ false)
+    → AtGap top bottom last t fam 0 a f l h n s w m q
+begins top bottom last t fam a f l h n s w m q b ea fr el eh en hs hw em hq = record {
+  keeps = record { holds = blank-holds top bottom t a f l h n b ea fr el eh en; marked = none-marked last n s w fam en hs hw };
+  mated = none-mated top bottom t fam n m q en em hq;
+}
 
 -- after column n no net has pins
 none-later : (top bottom : List ℕ) (v : ℕ) → length bottom ≡ length top → Drawing.later top bottom (length top) v ≡ false

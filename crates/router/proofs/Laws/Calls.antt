@@ -1,5 +1,5 @@
 -- From the row check's answer and the facts of each net to what the sweep goes by, and from what it leaves to the calls' promises.
-use Prim.Native.Nat.{ℕ, zero, suc, _+_, _-_, _*_, _/_, _≤_, _<_}
+use Prim.Native.Nat.{ℕ, zero, suc, _+_, _*_, _/_, _≤_, _<_}
 use mathlib.Core.Path.{_≡_, refl, sym, ap, subst, _∙_}
 use mathlib.Core.Bool.{not, _&&_}
 use mathlib.Core.Logic.{_≢_}
@@ -43,8 +43,12 @@ module _ (top bottom : List ℕ) (ok : rowsRefused top bottom 256 ≡ 0) where
 
   -- the tables of first and last columns
   spans : Spans top bottom (table (firstColumn top bottom)) (table (lastColumn top bottom))
-  spans = record { before = front; after = behind }
+  spans = record { before = front; after = behind; ends = ends }
     where
+      ends : (v : ℕ) → v ≤ 256 → getD (table (lastColumn top bottom)) v 0 ≡ Drawing.endOf top bottom v
+      ends zero b = unfold Drawing.endOf in table-none (lastColumn top bottom)
+      ends (suc v) b = unfold Drawing.endOf in (table-at (lastColumn top bottom) (suc v) (omega arith) b ∙ sym (rw (ne-eqb (suc v) 0 (λ e. omega arith)) refl))
+
       front : (c v : ℕ) → 0 < v → v ≤ 256
           → ltb 0 (left top bottom c v) ≡ (not (eqb (getD (table (firstColumn top bottom)) v 0) 0) && leb (getD (table (firstColumn top bottom)) v 0) c)
       front c v p b = rw (table-at (firstColumn top bottom) v p b) (begun top bottom v (omega arith) (fit .same) c)
@@ -110,7 +114,7 @@ module _ (top bottom : List ℕ) (most : ℕ) where
   -- a routing call that is let through draws a solution
   solves : (old : List ℕ) → refused top bottom most (length old) ≡ 0 → Solves top bottom (written top bottom most old) (figures top bottom)
   unfolding figures tracks
-  solves old q = record { solution = written-solution top bottom most old q; dense = refl; twoPin = λ e. rw e refl; manyPin = λ e. rw e refl }
+  solves old q = record { solution = written-solution top bottom most old q; dense = refl; twoPin = λ e. rw e refl; threePin = λ e. rw e refl; manyPin = λ e. rw e refl }
 
   -- all that a routing call promises, by its answer and its slice
   pub promised : (old new : List ℕ) (r : Routed) → r ≡ answer top bottom most (length old) → new ≡ written top bottom most old

@@ -2,13 +2,13 @@
 use Prim.Native.Nat.{ℕ, _+_, _*_, _≤_, _<_, max}
 use mathlib.Core.Path.{_≡_, refl, sym, ap, _∙_}
 use mathlib.Core.List.{List, _++_, append-nil}
-use mathlib.Core.Logic.{⊎-elim}
-use lib.Dec.{ltb}
-use borrow.Author.Tests.{lt-ltb, le-ltb}
+use mathlib.Core.Logic.{_⊎_, inl, inr, ⊎-elim}
+use mathlib.Core.Bool.{Bool, true, false, _||_}
+use lib.Dec.{eqb, ltb, leb}
+use borrow.Author.Tests.{lt-ltb, le-ltb, leb-true}
 use Rattle.grid.specs.Channel.{pick}
-use Rattle.router.specs.Working.{runs, twoRuns}
-use Rattle.sweep.specs.Working.{Flat}
-use Rattle.grid.proofs.Tests.{below-or}
+use Rattle.router.specs.Working.{isFlat, runs, twoRuns}
+use Rattle.grid.proofs.Tests.{Same, same, diff, sameBy, below-or, and-true}
 use Rattle.sweep.proofs.Columns.Entries.{getD-listed, length-listed, verticals-length}
 use native.Mathlib.Nat.{zero-add}
 use native.Mathlib.Numerals.{add-one}
@@ -20,18 +20,36 @@ use Rattle.grid.specs.Segments.{segment}
 use Rattle.sweep.specs.declared.Action.{Action}
 use Rattle.sweep.specs.Tracks.{verticals, valuesFrom}
 
+-- there is no net v, or it reaches up to row a
+reaches : (v a b : ℕ) → (eqb v 0 || leb a b) ≡ true → (v ≡ 0) ⊎ (a ≤ b)
+reaches v a b h = go (eqb v 0) (sameBy v 0) h
+  where
+    go : (q : Bool) → Same v 0 q → (q || leb a b) ≡ true → (v ≡ 0) ⊎ (a ≤ b)
+    go true (same e) g = inl e
+    go false (diff n) g = inr (leb-true a b g)
+
 -- three runs, where the wires are flat
-pub flat-runs : (w : Segments) (a b k : ℕ) → Flat w → a ≡ max (w .low) (w .start) → b ≡ max (w .stop) (w .high) → runs (w .bottom) a (w .middle) b (w .top) k ≡ segment w k
+pub flat-runs : (w : Segments) (a b k : ℕ) → isFlat w ≡ true → a ≡ max (w .low) (w .start) → b ≡ max (w .stop) (w .high)
+    → runs (w .bottom) a (w .middle) b (w .top) k ≡ segment w k
 unfolding segment
 flat-runs w a b k f ea eb = ⊎-elim in-low past-low (below-or k (w .low))
   where
+    both : ((eqb (w .bottom) 0 || leb (w .start) (w .low)) ≡ true) × ((eqb (w .middle) 0 || leb (w .high) (w .stop)) ≡ true)
+    both = and-true (eqb (w .bottom) 0 || leb (w .start) (w .low)) (eqb (w .middle) 0 || leb (w .high) (w .stop)) f
+
+    lower : (w .bottom ≡ 0) ⊎ (w .start ≤ w .low)
+    lower = reaches (w .bottom) (w .start) (w .low) (both .0)
+
+    upper : (w .middle ≡ 0) ⊎ (w .high ≤ w .stop)
+    upper = reaches (w .middle) (w .high) (w .stop) (both .1)
+
     -- from row a up
     above : w .low ≤ k → w .start ≤ k → pick (ltb k b) (w .middle) (w .top) ≡ pick (ltb k (w .stop)) (w .middle) (pick (ltb k (w .high)) 0 (w .top))
     above h g =
         ⊎-elim (λ (l : k < w .stop). rw (lt-ltb k (w .stop) l, lt-ltb k b (omega arith)) refl)
         (λ (l : w .stop ≤ k).
         ⊎-elim (λ (m : k < w .high).
-        ⊎-elim (λ (z : w .middle ≡ 0). rw (le-ltb k (w .stop) l, lt-ltb k (w .high) m, lt-ltb k b (omega arith)) z) (λ (z : w .high ≤ w .stop). absurd (omega arith)) (f .upper))
+        ⊎-elim (λ (z : w .middle ≡ 0). rw (le-ltb k (w .stop) l, lt-ltb k (w .high) m, lt-ltb k b (omega arith)) z) (λ (z : w .high ≤ w .stop). absurd (omega arith)) upper)
         (λ (m : w .high ≤ k). rw (le-ltb k (w .stop) l, le-ltb k (w .high) m, le-ltb k b (omega arith)) refl) (below-or k (w .high))) (below-or k (w .stop))
 
     in-low : k < w .low → runs (w .bottom) a (w .middle) b (w .top) k ≡ pick (ltb k (w .low)) (w .bottom) (pick (ltb k (w .start)) 0 (pick (ltb k (w .stop)) (w .middle) (pick (ltb k (w .high)) 0 (w .top))))
@@ -40,7 +58,7 @@ flat-runs w a b k f ea eb = ⊎-elim in-low past-low (below-or k (w .low))
     past-low : w .low ≤ k → runs (w .bottom) a (w .middle) b (w .top) k ≡ pick (ltb k (w .low)) (w .bottom) (pick (ltb k (w .start)) 0 (pick (ltb k (w .stop)) (w .middle) (pick (ltb k (w .high)) 0 (w .top))))
     past-low h =
         ⊎-elim (λ (g : k < w .start).
-        ⊎-elim (λ (z : w .bottom ≡ 0). rw (le-ltb k (w .low) h, lt-ltb k (w .start) g, lt-ltb k a (omega arith)) z) (λ (z : w .start ≤ w .low). absurd (omega arith)) (f .lower))
+        ⊎-elim (λ (z : w .bottom ≡ 0). rw (le-ltb k (w .low) h, lt-ltb k (w .start) g, lt-ltb k a (omega arith)) z) (λ (z : w .start ≤ w .low). absurd (omega arith)) lower)
         (λ (g : w .start ≤ k). rw (le-ltb k (w .low) h, le-ltb k (w .start) g, le-ltb k a (omega arith)) (above h g)) (below-or k (w .start))
 
 -- the middle run is empty

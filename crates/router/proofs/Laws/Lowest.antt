@@ -1,14 +1,16 @@
 -- The lowest net of a set is the lowest net on the tracks that passes the set's test.
-use Prim.Native.Nat.{ℕ, zero, suc, _%_, _≤_, _<_}
+use Prim.Native.Nat.{ℕ, zero, suc, _≤_, _<_}
 use mathlib.Core.Path.{_≡_, refl, sym, ap, subst, _∙_}
 use mathlib.Core.Bool.{Bool, true}
 use mathlib.Core.List.{List, [], _∷_}
-use mathlib.Core.Logic.{⊎-elim}
+use mathlib.Core.Logic.{_⊎_, inl, inr, ⊎-elim}
 use native.Mathlib.Omega.{arith}
+use native.Mathlib.Decide.{ℕ-discrete, decLt}
 use lib.ListN.{length, getD}
 use Rattle.grid.specs.Channel.{pick}
 use Rattle.sets.specs.Member.{member, LowestFrom}
 use Rattle.sweep.specs.Tracks.{lesser, lowestNet, many}
+use Rattle.pairs.specs.Working.{LeastAbove}
 use Rattle.router.specs.Working.{Next}
 use Rattle.grid.proofs.Counting.{holds-times, times-at}
 use Rattle.grid.proofs.Tests.{not-both, below-or}
@@ -56,36 +58,47 @@ net-least p (x ∷ xs) (suc j) h e n =
     let w = lesser-right (pick (p x) x 0) (lowestNet p xs) (ih .0) in
     (w .0, omega arith)
 
--- a set of nets on the tracks by a test: each member passes it, and each net on a track that passes it is a member
-pub record Gathers (p : ℕ → Bool) (tr s : List ℕ) : Type 0 where
-  pub only : (v : ℕ) → member s v ≡ true → (0 < v) × (p v ≡ true) × OnTrack v tr
-  pub all : (v : ℕ) → OnTrack v tr → 0 < v → p v ≡ true → (v < 512) × (member s v ≡ true)
+-- numbers gathered from the tracks by a test p: each that is told passes it and stands on a track, and each net on a track that passes it is told
+pub record Gathers (p : ℕ → Bool) (tr : List ℕ) (told : ℕ → Bool) : Type 0 where
+  pub only : (v : ℕ) → told v ≡ true → (0 < v) × (p v ≡ true) × OnTrack v tr
+  pub all : (v : ℕ) → OnTrack v tr → 0 < v → p v ≡ true → (v < 512) × (told v ≡ true)
 
--- the lowest member of such a set is the lowest net that passes the test
-pub lowest-net : (p : ℕ → Bool) (tr s : List ℕ) (r : ℕ) → Gathers p tr s → Next s 0 r → r ≡ lowestNet p tr
-lowest-net p tr s r m n = n .is ∙ ⊎-elim some none (below-or (n .place) 512)
+-- the lowest of them is the lowest net that passes the test
+pub least-net : (p : ℕ → Bool) (tr : List ℕ) (told : ℕ → Bool) (r : ℕ) → Gathers p tr told → LeastAbove told 0 r → r ≡ lowestNet p tr
+least-net p tr told r m n = go (ℕ-discrete r 0)
   where
-    k : ℕ
-    k = n .place
-
-    o : LowestFrom s 0 k
-    o = n .least
-
-    some : k < 512 → k % 512 ≡ lowestNet p tr
-    some h =
-        let f = m .only k (o .found h) in
-        let l = net-least p tr (f .2 .0) (f .2 .1) (ap p (f .2 .2) ∙ f .1) (subst (λ (z : ℕ). 0 < z) (sym (f .2 .2)) (f .0)) in
-        let g = net-found p tr (l .0) in
-        let b = m .all (lowestNet p tr) (g .1) (l .0) (g .0) in
-        ⊎-elim (λ (q : lowestNet p tr < k). absurd (not-both (b .1) (o .below (lowestNet p tr) (omega arith) q)))
-        (λ (q : k ≤ lowestNet p tr). omega (arith, f .2 .2, l .1)) (below-or (lowestNet p tr) k)
-
-    none : 512 ≤ k → k % 512 ≡ lowestNet p tr
-    none h =
-        let e : k ≡ 512 = omega (arith, o .high) in
-        ⊎-elim
-        (λ (q : 0 < lowestNet p tr).
+    -- a lowest net that is there is not below r
+    above : 0 < lowestNet p tr → (r ≡ 0) ⊎ (lowestNet p tr < r) → ⊥
+    above q o =
         let g = net-found p tr q in
         let b = m .all (lowestNet p tr) (g .1) q (g .0) in
-        absurd (not-both (b .1) (o .below (lowestNet p tr) (omega arith) (omega (arith, b .0)))))
-        (λ (q : lowestNet p tr ≤ 0). omega arith) (below-or 0 (lowestNet p tr))
+        not-both (b .1) (n .below (lowestNet p tr) q (b .0) o)
+
+    go : Dec (r ≡ 0) → r ≡ lowestNet p tr
+    go (yes e) = ⊎-elim (λ (q : 0 < lowestNet p tr). absurd (above q (inl e))) (λ (q : lowestNet p tr ≤ 0). omega arith) (below-or 0 (lowestNet p tr))
+    go (no d) =
+        let f = m .only r (n .found d .1) in
+        let l = net-least p tr (f .2 .0) (f .2 .1) (ap p (f .2 .2) ∙ f .1) (subst (λ (z : ℕ). 0 < z) (sym (f .2 .2)) (f .0)) in
+        ⊎-elim (λ (q : lowestNet p tr < r). absurd (above (l .0) (inr q))) (λ (q : r ≤ lowestNet p tr). omega (arith, f .2 .2, l .1)) (below-or (lowestNet p tr) r)
+
+-- the lowest member of a set is such
+next-least : (s : List ℕ) (r : ℕ) → (member s 0 ≡ true → ⊥) → Next s 0 r → LeastAbove (member s) 0 r
+next-least s r z n = go (decLt (n .place) 512)
+  where
+    o : LowestFrom s 0 (n .place)
+    o = n .least
+
+    go : Dec (n .place < 512) → LeastAbove (member s) 0 r
+    go (yes h) =
+        let e : r ≡ n .place = omega (arith, n .is) in
+        let f : member s r ≡ true = ap (member s) e ∙ o .found h in
+        let pos : 0 < r = ⊎-elim (λ (q : 0 < r). q) (λ (q : r ≤ 0). absurd (z (ap (member s) (let y : 0 ≡ r = omega arith in y) ∙ f))) (below-or 0 r) in
+        record { small = omega arith; found = λ d. (pos, f); below = λ v a b. ⊎-elim (λ (i : r ≡ 0). absurd (omega arith)) (λ (i : v < r). o .below v (omega arith) (omega arith)) }
+    go (no h) =
+        let e : n .place ≡ 512 = omega (arith, o .high) in
+        let f : r ≡ 0 = omega (arith, n .is) in
+        record { small = omega arith; found = λ d. absurd (d f); below = λ v a b i. o .below v (omega arith) (omega arith) }
+
+-- so it is the lowest net that passes the test
+pub lowest-net : (p : ℕ → Bool) (tr s : List ℕ) (r : ℕ) → Gathers p tr (member s) → Next s 0 r → r ≡ lowestNet p tr
+lowest-net p tr s r m n = least-net p tr (member s) r m (next-least s r (λ e. let y = m .only 0 e .0 in omega arith) n)

@@ -1,23 +1,27 @@
--- The sets of extended and of wide nets from one gap to the next: they change for the column's nets alone.
+-- The sets of extended and of wide nets from one gap to the next: they change for the column's nets alone; and the pairs.
 use Prim.Native.Nat.{ℕ, zero, suc, _+_, _≤_, _<_}
-use mathlib.Core.Path.{_≡_, refl, sym, ap, subst, _∙_}
+use mathlib.Core.Path.{_≡_, refl, sym, ap, ap₂, subst, _∙_}
 use mathlib.Core.Bool.{Bool, true, false, not, _&&_}
 use mathlib.Core.List.{List}
 use mathlib.Core.Logic.{_⊎_, inl, inr, ⊎-elim, _≢_}
 use native.Mathlib.Numerals.{add-one}
 use native.Mathlib.Omega.{arith}
+use native.Mathlib.Decide.{ℕ-discrete}
 use lib.Dec.{eqb, ltb}
 use borrow.Author.Tests.{eqb-true, eqb-false}
 use lib.ListN.{length, getD, List·getD-eq-default}
 use Rattle.grid.proofs.Rows.{right-suc}
 use Rattle.grid.proofs.Tests.{eqb-diff, and-none, below-or}
 use Rattle.grid.specs.declared.Family.{Family}
-use Rattle.grid.specs.Channel.{right}
-use Rattle.sweep.specs.declared.Action.{Action}
+use Rattle.grid.specs.Channel.{pick, right}
+use Rattle.sweep.specs.declared.Move.{Move}
 use Rattle.sweep.specs.Tracks.{after}
+use Rattle.sweep.specs.Pairs.{unpair, pairUp}
 use Rattle.sweep.specs.Drawing
-use Rattle.sweep.specs.Drawing.{action}
-use Rattle.router.specs.Working.{tracksIn, Holds, RowsAndLasts, Fitting, MarkedAt, Marked, MarksThree, Keeps, extendedBy, wideBy}
+use Rattle.sweep.specs.Drawing.{endingAt, matesAfter}
+use Rattle.pairs.specs.Working.{loneBy, endingBy, renewed, Numbers, MarksAllLone}
+use Rattle.pairs.proofs.Renewal.{small-renewed}
+use Rattle.router.specs.Working.{tracksIn, Holds, RowsAndLasts, Fitting, MarkedAt, Marked, MarksThree, Keeps, Mated, forms, OthersTold, PairsSettled, extendedBy, wideBy}
 use Rattle.sweep.proofs.Columns.Others.{others-stay}
 
 -- a net with no pin in column c + 1 has as many pins after it as before it
@@ -33,21 +37,29 @@ pub zero-marked : (last n n′ : List ℕ) (c c′ : ℕ) (s w : List ℕ) (fam 
 unfolding extendedBy wideBy
 zero-marked last n n′ c c′ s w fam r = record { extended = r .extended; wide = r .wide }
 
-module _ (top bottom last : List ℕ) (c : ℕ) (x : Action) {t : ℕ} {a f l h n a′ f′ l′ h′ n′ s w : List ℕ} {fam : Family} where
+-- a net that the column does not touch has as many strands as before
+number-stays : (top bottom : List ℕ) (c : ℕ) (x : Move) {t : ℕ} {a f l h n a′ f′ l′ h′ n′ : List ℕ} → Holds t (tracksIn t a) a f l h n → Fitting top bottom c x (tracksIn t a)
+    → Holds t (after (x .action) (tracksIn t a)) a′ f′ l′ h′ n′ → (j : ℕ) → j ≢ 0 → j ≢ x .action .ended → j ≢ getD top c 0 → j ≢ getD bottom c 0 → getD n′ j 0 ≡ getD n j 0
+number-stays top bottom c x {t} {a} {f} {l} {h} {n} {a′} {f′} {l′} {h′} {n′} H ax H′ j z d p q =
+    ⊎-elim
+    (λ (b : j < 257). H′ .numbers .at j (omega arith) (omega arith)
+    ∙ others-stay (x .action) (getD top c 0) (getD bottom c 0) j (tracksIn t a) (ax .applies) (ax .plain) (omega arith) d p q ∙ sym (H .numbers .at j (omega arith) (omega arith)))
+    (λ (b : 257 ≤ j). List·getD-eq-default n′ 0 (omega (arith, H′ .numbers .size)) ∙ sym (List·getD-eq-default n 0 (omega (arith, H .numbers .size))))
+    (below-or j 257)
+
+module _ (top bottom last : List ℕ) (c : ℕ) (x : Move) {t : ℕ} {a f l h n a′ f′ l′ h′ n′ s w : List ℕ} {fam : Family} where
   -- a net that the column does not touch is still marked as it is
   marked-stays : RowsAndLasts top bottom last → c < length top
-      → Holds t (tracksIn t a) a f l h n → x ≡ action t top bottom c (tracksIn t a) → Fitting top bottom c x (tracksIn t a) → Holds t (after x (tracksIn t a)) a′ f′ l′ h′ n′
-      → (j : ℕ) → (j ≡ x .ended → ⊥) → (j ≡ getD top c 0 → ⊥) → (j ≡ getD bottom c 0 → ⊥) → MarkedAt last n c s w fam j → MarkedAt last n′ (c + 1) s w fam j
+      → Holds t (tracksIn t a) a f l h n → Fitting top bottom c x (tracksIn t a) → Holds t (after (x .action) (tracksIn t a)) a′ f′ l′ h′ n′
+      → (j : ℕ) → (j ≡ x .action .ended → ⊥) → (j ≡ getD top c 0 → ⊥) → (j ≡ getD bottom c 0 → ⊥) → MarkedAt last n c s w fam j → MarkedAt last n′ (c + 1) s w fam j
   unfolding extendedBy wideBy
-  marked-stays sp cl H ex ax H′ zero d p q r = zero-marked last n n′ c (c + 1) s w fam r
-  marked-stays sp cl H ex ax H′ (suc j) d p q r = ⊎-elim small large (below-or (suc j) 257)
+  marked-stays sp cl H ax H′ zero d p q r = zero-marked last n n′ c (c + 1) s w fam r
+  marked-stays sp cl H ax H′ (suc j) d p q r = ⊎-elim small large (below-or (suc j) 257)
     where
       small : suc j < 257 → MarkedAt last n′ (c + 1) s w fam (suc j)
       small b =
           let k : suc j ≤ 256 = omega arith in
-          let z : 0 < suc j = omega arith in
-          let m : getD n′ (suc j) 0 ≡ getD n (suc j) 0 =
-          H′ .numbers .at (suc j) z k ∙ others-stay x (getD top c 0) (getD bottom c 0) (suc j) (tracksIn t a) (ax .applies) (ax .plain) z d p q ∙ sym (H .numbers .at (suc j) z k) in
+          let m : getD n′ (suc j) 0 ≡ getD n (suc j) 0 = number-stays top bottom c x H ax H′ (suc j) (λ e. omega arith) d p q in
           let e : ltb (c + 1) (getD last (suc j) 0) ≡ ltb c (getD last (suc j) 0) =
           ap (λ (y : ℕ). ltb y (getD last (suc j) 0)) (add-one c) ∙ sym (sp .lasts (suc c) (suc j) k)
           ∙ sym (later-next top bottom c (suc j) (λ e. omega arith) p q) ∙ sp .lasts c (suc j) k in
@@ -64,27 +76,70 @@ module _ (top bottom last : List ℕ) (c : ℕ) (x : Action) {t : ℕ} {a f l h 
 
   -- each net is one of the three that the column marks, or it is marked already
   marked-next : RowsAndLasts top bottom last → c < length top
-      → Holds t (tracksIn t a) a f l h n → x ≡ action t top bottom c (tracksIn t a) → Fitting top bottom c x (tracksIn t a) → Holds t (after x (tracksIn t a)) a′ f′ l′ h′ n′
-      → Marked last n c s w fam → (j : ℕ) → (j ≡ x .ended) ⊎ ((j ≡ getD top c 0) ⊎ ((j ≡ getD bottom c 0) ⊎ MarkedAt last n′ (c + 1) s w fam j))
-  marked-next sp cl H ex ax H′ so j = go (eqb j (x .ended)) (eqb j (getD top c 0)) (eqb j (getD bottom c 0)) refl refl refl
+      → Holds t (tracksIn t a) a f l h n → Fitting top bottom c x (tracksIn t a) → Holds t (after (x .action) (tracksIn t a)) a′ f′ l′ h′ n′
+      → Marked last n c s w fam → (j : ℕ) → (j ≡ x .action .ended) ⊎ ((j ≡ getD top c 0) ⊎ ((j ≡ getD bottom c 0) ⊎ MarkedAt last n′ (c + 1) s w fam j))
+  marked-next sp cl H ax H′ so j = go (eqb j (x .action .ended)) (eqb j (getD top c 0)) (eqb j (getD bottom c 0)) refl refl refl
     where
-      go : (p q r : Bool) → eqb j (x .ended) ≡ p → eqb j (getD top c 0) ≡ q → eqb j (getD bottom c 0) ≡ r
-          → (j ≡ x .ended) ⊎ ((j ≡ getD top c 0) ⊎ ((j ≡ getD bottom c 0) ⊎ MarkedAt last n′ (c + 1) s w fam j))
-      go true q r e g k = inl (eqb-true j (x .ended) e)
+      go : (p q r : Bool) → eqb j (x .action .ended) ≡ p → eqb j (getD top c 0) ≡ q → eqb j (getD bottom c 0) ≡ r
+          → (j ≡ x .action .ended) ⊎ ((j ≡ getD top c 0) ⊎ ((j ≡ getD bottom c 0) ⊎ MarkedAt last n′ (c + 1) s w fam j))
+      go true q r e g k = inl (eqb-true j (x .action .ended) e)
       go false true r e g k = inr (inl (eqb-true j (getD top c 0) g))
       go false false true e g k = inr (inr (inl (eqb-true j (getD bottom c 0) k)))
       go false false false e g k =
-          inr (inr (inr (marked-stays sp cl H ex ax H′ j (eqb-false j (x .ended) e) (eqb-false j (getD top c 0) g) (eqb-false j (getD bottom c 0) k) (so j))))
+          inr (inr (inr (marked-stays sp cl H ax H′ j (eqb-false j (x .action .ended) e) (eqb-false j (getD top c 0) g) (eqb-false j (getD bottom c 0) k) (so j))))
 
   -- the arrays and sets after the column, k its number, once its three nets are marked
   pub settled : (k : ℕ) {s′ w′ : List ℕ} → k ≡ c + 1 → RowsAndLasts top bottom last → c < length top
-      → Keeps last t fam c (tracksIn t a) a f l h n s w → x ≡ action t top bottom c (tracksIn t a) → Fitting top bottom c x (tracksIn t a)
-      → Holds t (after x (tracksIn t a)) a′ f′ l′ h′ n′ → MarksThree last n′ k fam (x .ended) (getD top c 0) (getD bottom c 0) s w s′ w′
-      → Keeps last t fam (c + 1) (after x (tracksIn t a)) a′ f′ l′ h′ n′ s′ w′
-  settled k {s′} {w′} ek sp cl K ex ax H′ E =
+      → Keeps last t fam c (tracksIn t a) a f l h n s w → Fitting top bottom c x (tracksIn t a)
+      → Holds t (after (x .action) (tracksIn t a)) a′ f′ l′ h′ n′ → MarksThree last n′ k fam (x .action .ended) (getD top c 0) (getD bottom c 0) s w s′ w′
+      → Keeps last t fam (c + 1) (after (x .action) (tracksIn t a)) a′ f′ l′ h′ n′ s′ w′
+  settled k {s′} {w′} ek sp cl K ax H′ E =
       record {
         holds = H′;
         marked = λ j.
-            subst (λ (z : ℕ). MarksThree last n′ z fam (x .ended) (getD top c 0) (getD bottom c 0) s w s′ w′) ek E j
-            (marked-next sp cl (K .holds) ex ax H′ (K .marked) j);
+            subst (λ (z : ℕ). MarksThree last n′ z fam (x .action .ended) (getD top c 0) (getD bottom c 0) s w s′ w′) ek E j
+            (marked-next sp cl (K .holds) ax H′ (K .marked) j);
       }
+
+-- THE PAIRS
+module _ (top bottom : List ℕ) (c : ℕ) (x : Move) {t : ℕ} {a f l h n a′ f′ l′ h′ n′ m mates q : List ℕ} {fam : Family} where
+  -- of the nets that the column does not touch the set of the unpaired double nets still tells
+  pub others-told : Mated fam m n mates q → Holds t (tracksIn t a) a f l h n → Fitting top bottom c x (tracksIn t a) → Holds t (after (x .action) (tracksIn t a)) a′ f′ l′ h′ n′
+      → forms fam ≡ true → OthersTold n′ mates q (x .action .ended) (getD top c 0) (getD bottom c 0)
+  unfolding loneBy
+  others-told M H ax H′ e = record { small = M .small e; none = M .lone e 0; others = λ j d p r. M .lone e j ∙ same j d p r (ℕ-discrete j 0) }
+    where
+      same : (j : ℕ) → j ≢ x .action .ended → j ≢ getD top c 0 → j ≢ getD bottom c 0 → Dec (j ≡ 0) → loneBy n mates j ≡ loneBy n′ mates j
+      same j d p r (yes z) = rw z refl
+      same j d p r (no z) = ap (λ (k : ℕ). not (eqb j 0) && (eqb k 2 && eqb (getD mates j 0) 0)) (sym (number-stays top bottom c x H ax H′ j z d p r))
+
+-- the mates after the column
+pub mates-settled : (top bottom last : List ℕ) (c k : ℕ) (x : Move) (number m mates q q′ : List ℕ) → k ≡ c + 1 → RowsAndLasts top bottom last
+    → (x .action .ended ≤ 256) × (x .double ≤ 256) × (x .single ≤ 256) → OthersTold number m q (x .action .ended) (getD top c 0) (getD bottom c 0)
+    → mates ≡ renewed last k (getD top c 0) (getD bottom c 0) (x .double) (x .single) m
+    → (Numbers (x .action .ended) (getD top c 0) (getD bottom c 0) (x .double) (x .single) m → MarksAllLone number m mates (x .action .ended) (getD top c 0) (getD bottom c 0) q q′)
+    → PairsSettled top bottom c x number m mates q′
+mates-settled top bottom last c k x number m mates q q′ ek r b o em tells = record {
+  is = em ∙ renewed-is;
+  small = λ j. subst (λ (z : List ℕ). getD z j 0 ≤ 256) (sym em) (small-renewed 256 last m k (getD top c 0) (getD bottom c 0) (x .double) (x .single) j (b .1) (b .2) (o .small));
+  lone = tells (record {
+    ended = omega (arith, b .0);
+    above = omega (arith, r .tops c);
+    below = omega (arith, r .bottoms c);
+    double = omega (arith, b .1);
+    single = omega (arith, b .2);
+    mates = λ j. omega (arith, o .small j);
+  }) (o .none) (o .others);
+}
+  where
+    ending-is : (v : ℕ) → v ≤ 256 → endingBy last k v ≡ endingAt top bottom c v
+    ending-is v h = unfold endingBy endingAt in ap (λ (z : Bool). pick z 0 v) (ap (λ (i : ℕ). ltb i (getD last v 0)) (ek ∙ add-one c) ∙ sym (r .lasts (suc c) v h))
+
+    renewed-is : renewed last k (getD top c 0) (getD bottom c 0) (x .double) (x .single) m ≡ matesAfter top bottom c x m
+    renewed-is = unfold renewed matesAfter in
+        ap₂ (λ (i j : ℕ). pairUp (x .double) (x .single) (unpair j (unpair i m))) (ending-is (getD top c 0) (r .tops c)) (ending-is (getD bottom c 0) (r .bottoms c))
+
+-- where pairs are formed
+pub mated-next : {top bottom : List ℕ} {c : ℕ} {x : Move} {n m mates q : List ℕ} (fam : Family) → (forms fam ≡ true → PairsSettled top bottom c x n m mates q)
+    → Mated fam (matesAfter top bottom c x m) n mates q
+mated-next fam p = record { is = λ e. p e .is; small = λ e. p e .small; lone = λ e. p e .lone }

@@ -1,16 +1,14 @@
--- What the arrays and sets say of a column, and the columns drawn so far.
-use Prim.Native.Nat.{ℕ, zero, suc, _+_, _-_, _*_, _≤_, _<_}
+-- What the arrays and sets say of a column.
+use Prim.Native.Nat.{ℕ, zero, suc, _+_, _≤_, _<_}
 use mathlib.Core.Path.{_≡_, refl, sym, ap, subst, _∙_}
 use mathlib.Core.Bool.{Bool, true, false, not, _&&_}
-use mathlib.Core.List.{List, _++_, append-assoc}
+use mathlib.Core.List.{List}
 use mathlib.Core.Logic.{inl, inr, ⊎-elim}
-use native.Mathlib.Nat.{zero-mul, suc-mul, mul-le-mul-right, add-sub-cancel-left}
 use native.Mathlib.Numerals.{add-one}
 use native.Mathlib.Omega.{arith}
 use lib.Dec.{eqb, ltb, leb}
 use borrow.Author.Tests.{eq-eqb, ne-eqb, lt-ltb, ltb-true}
-use lib.ListN.{length, take, drop, getD, length-append, length-take, length-drop, List·getD-eq-default}
-use lib.Seq.{take-at, drop-at, drop-drop}
+use lib.ListN.{getD, List·getD-eq-default}
 use Rattle.grid.specs.declared.Family.{Family}
 use Rattle.grid.specs.declared.Family.the-variants.{TwoPin, ManyPin}
 use Rattle.grid.specs.Channel.{pick}
@@ -20,14 +18,15 @@ use Rattle.sweep.specs.declared.Action.{Action}
 use Rattle.sweep.specs.declared.Pin.{Pin}
 use Rattle.sweep.specs.declared.Free.{Free}
 use Rattle.sweep.specs.declared.Joint.{Joint}
-use Rattle.sweep.specs.Tracks.{second, many, after, verticals}
+use Rattle.sweep.specs.declared.Move.{Move}
+use Rattle.sweep.specs.Tracks.{second, many, after}
 use Rattle.sweep.specs.TwoPin.{chooseTwo}
 use Rattle.sweep.specs.ManyPin.{chooseMany}
 use Rattle.sweep.specs.Drawing
-use Rattle.sweep.specs.Drawing.{actionOf, kindBy, freeOf, pinAt, extendedAt, wideAt, extendedNet, netToJoin, jointOf, action, gap, drawn}
-use Rattle.sweep.specs.Working.{Flat}
-use Rattle.router.specs.Working.{tracksIn, Holds, Spans, RowsAndLasts, Ready, Fitting, FitsAt, Marked, Keeps, narrow, AtGap, DrawnTo, Next, ToJoin, LowestJoint, pinBy, extendedBy, wideBy, jointBy}
-use Rattle.router.proofs.Laws.Arrays.{length-tracks, tracks-at, own}
+use Rattle.sweep.specs.ThreePin.{still}
+use Rattle.sweep.specs.Drawing.{moveOf, move, kindBy, freeOf, pinAt, extendedAt, wideAt, extendedNet, netToJoin, jointOf}
+use Rattle.router.specs.Working.{tracksIn, Holds, Spans, Ready, Marked, narrow, Next, ToJoin, LowestJoint, pinBy, extendedBy, wideBy, jointBy}
+use Rattle.router.proofs.Laws.Arrays.{length-tracks, tracks-at}
 use Rattle.sweep.proofs.Rules.Seconds.{leaving, two-same, many-same}
 use Rattle.router.proofs.Laws.Lowest.{OnTrack, Gathers, lowest-net, many-on, on-many}
 
@@ -76,7 +75,7 @@ module _ (top bottom first last : List ℕ) (sp : Spans top bottom first last) {
       rw (sp .before c (suc v) p b, sp .after (suc c) (suc v) b, h .lows .at (suc v) p b, h .highs .at (suc v) p b, h .numbers .at (suc v) p b, add-one c)
 
   -- so is the net of rule 2, but for the second lowest strand where it does not leave on that one
-  joint-is : (v : ℕ) → v ≤ 256 → jointBy (getD last v 0) (getD low v 0) (second v tr) (getD high v 0) c v ≡ leaving (jointOf top bottom c tr v)
+  pub joint-is : (v : ℕ) → v ≤ 256 → jointBy (getD last v 0) (getD low v 0) (second v tr) (getD high v 0) c v ≡ leaving (jointOf top bottom c tr v)
   unfolding jointBy jointOf
   joint-is zero b = refl
   joint-is (suc v) b =
@@ -91,7 +90,7 @@ module _ (top bottom first last : List ℕ) (sp : Spans top bottom first last) {
         (λ (l : 257 ≤ v). let z : getD number v 0 ≡ 0 = List·getD-eq-default number 0 (omega (arith, h .numbers .size)) in absurd (omega arith)) (below-or v 257)
 
     -- the set of extended nets by its test
-    extended-gathers : Gathers (extendedAt top bottom c) tr s
+    extended-gathers : Gathers (extendedAt top bottom c) tr (member s)
     unfolding extendedBy extendedAt
     extended-gathers = record { only = λ v e. back v (sym (so v .extended) ∙ e); all = there }
       where
@@ -111,7 +110,7 @@ module _ (top bottom first last : List ℕ) (sp : Spans top bottom first last) {
             (omega arith, so v .extended ∙ rw (a .0, sym (sp .after c v b), a .1, lt-ltb 0 (getD number v 0) m) refl)
 
     -- the set of wide nets by its test
-    wide-gathers : narrow fam ≡ false → Gathers (wideAt top bottom c tr) tr w
+    wide-gathers : narrow fam ≡ false → Gathers (wideAt top bottom c tr) tr (member w)
     unfolding wideBy wideAt
     wide-gathers m = record { only = λ v e. back v (sym (so v .wide m) ∙ e); all = there }
       where
@@ -131,7 +130,7 @@ module _ (top bottom first last : List ℕ) (sp : Spans top bottom first last) {
             (omega arith, so v .wide m ∙ rw (ne-eqb v 0 (λ q. omega arith), sym (sp .after c v b), a .0, h .numbers .at v p b, a .1) refl)
 
     -- its lowest is the extended net
-    extended-is : (v : ℕ) → Next s 0 v → v ≡ extendedNet top bottom c tr
+    pub extended-is : (v : ℕ) → Next s 0 v → v ≡ extendedNet top bottom c tr
     unfolding extendedNet
     extended-is v n = lowest-net (extendedAt top bottom c) tr s v extended-gathers n
 
@@ -146,7 +145,7 @@ module _ (top bottom first last : List ℕ) (sp : Spans top bottom first last) {
         lowest-net (wideAt top bottom c tr) tr w v (wide-gathers m) (n .1) ∙ sym (rw (eq-eqb (extendedNet top bottom c tr) 0 e) refl)
 
     -- the net of rule 2 is numbered up to 256
-    next-small : (u : List ℕ) (p : ℕ → Bool) (v : ℕ) → Gathers p tr u → Next u 0 v → v ≤ 256
+    next-small : (u : List ℕ) (p : ℕ → Bool) (v : ℕ) → Gathers p tr (member u) → Next u 0 v → v ≤ 256
     next-small u p zero m n = omega arith
     next-small u p (suc v) m n =
         let e : suc v ≡ n .place = omega (arith, n .is, n .least .high) in
@@ -162,24 +161,24 @@ module _ (top bottom first last : List ℕ) (sp : Spans top bottom first last) {
     to-join-small m v (inr n) = next-small w (wideAt top bottom c tr) v (wide-gathers m) (n .1)
 
 -- a column, from what its functions found
-module _ (top bottom first last : List ℕ) {t : ℕ} {d f low high number s w : List ℕ} {fam : Family} (c : ℕ) (A B : Pin) (x : Action)
+module _ (top bottom first last : List ℕ) {t : ℕ} {d f low high number s w : List ℕ} {fam : Family} (c : ℕ) (A B : Pin)
     (h : Holds t (tracksIn t d) d f low high number) (so : Marked last number c s w fam)
     (ea : A ≡ pinBy (getD first (getD top c 0) 0) (getD last (getD top c 0) 0) (getD low (getD top c 0) 0) (getD high (getD top c 0) 0) (getD number (getD top c 0) 0) c (getD top c 0))
     (eb : B ≡ pinBy (getD first (getD bottom c 0) 0) (getD last (getD bottom c 0) 0) (getD low (getD bottom c 0) 0) (getD high (getD bottom c 0) 0) (getD number (getD bottom c 0) 0) c (getD bottom c 0)) where
   -- its top pin
-  top-is : {p : Family} → Ready top bottom first last t p → A ≡ pinAt top bottom c (tracksIn t d) (getD top c 0)
+  pub top-is : {p : Family} → Ready top bottom first last t p → A ≡ pinAt top bottom c (tracksIn t d) (getD top c 0)
   top-is r = ea ∙ pin-is top bottom first last (r .spans) h c (getD top c 0) (r .tops c)
 
   -- its bottom pin
-  bottom-is : {p : Family} → Ready top bottom first last t p → B ≡ pinAt top bottom c (tracksIn t d) (getD bottom c 0)
+  pub bottom-is : {p : Family} → Ready top bottom first last t p → B ≡ pinAt top bottom c (tracksIn t d) (getD bottom c 0)
   bottom-is r = eb ∙ pin-is top bottom first last (r .spans) h c (getD bottom c 0) (r .bottoms c)
 
   -- of a two-pin channel
-  pub column-is : fam ≡ TwoPin → Ready top bottom first last t fam
+  pub column-is : (x : Action) (y : Move) (mates : List ℕ) → fam ≡ TwoPin → Ready top bottom first last t fam
       → ((N : Joint) → LowestJoint last low high s (tracksIn t d) c N → x ≡ chooseTwo t A B (freeOf (tracksIn t d)) N)
-      → x ≡ action t top bottom c (tracksIn t d)
-  unfolding action actionOf
-  column-is m r ex =
+      → y ≡ still x → y ≡ move t top bottom c (tracksIn t d) mates
+  unfolding move moveOf
+  column-is x y mates m r ex ey =
       let J : ℕ → Joint = jointOf top bottom c (tracksIn t d) in
       let p = top-is r in
       let q = bottom-is r in
@@ -190,11 +189,11 @@ module _ (top bottom first last : List ℕ) {t : ℕ} {d f low high number s w :
       rw (r .is ∙ m) (cc (two-same A B (freeOf (tracksIn t d)) (J (extendedNet top bottom c (tracksIn t d))) t))
 
   -- and of a many-pin channel
-  pub column-many-is : fam ≡ ManyPin → Ready top bottom first last t fam → (free : Free) (v : ℕ) (N : Joint) (b : Bool) → free ≡ freeOf (tracksIn t d) → ToJoin s w v
+  pub column-many-is : fam ≡ ManyPin → Ready top bottom first last t fam → (free : Free) (v : ℕ) (N : Joint) (b : Bool) (x : Action) (y : Move) (mates : List ℕ) → free ≡ freeOf (tracksIn t d) → ToJoin s w v
       → N ≡ jointBy (getD last v 0) (getD low v 0) (second v (tracksIn t d)) (getD high v 0) c v → b ≡ ltb (c + 1) (getD last (getD top c 0) 0)
-      → x ≡ chooseMany t A B free N b → x ≡ action t top bottom c (tracksIn t d)
-  unfolding action actionOf
-  column-many-is m r free v N b ef nx en el ex =
+      → x ≡ chooseMany t A B free N b → y ≡ still x → y ≡ move t top bottom c (tracksIn t d) mates
+  unfolding move moveOf
+  column-many-is m r free v N b x y mates ef nx en el ex ey =
       let J : ℕ → Joint = jointOf top bottom c (tracksIn t d) in
       let p = top-is r in
       let q = bottom-is r in
@@ -203,101 +202,3 @@ module _ (top bottom first last : List ℕ) {t : ℕ} {d f low high number s w :
       ∙ ap (λ (u : ℕ). leaving (J u)) (to-join-is top bottom first last (r .spans) h c so (ap narrow m) v nx) in
       let l : b ≡ Drawing.later top bottom (suc c) (getD top c 0) = el ∙ ap (λ (k : ℕ). ltb k (getD last (getD top c 0) 0)) (add-one c) ∙ sym (r .spans .after (suc c) (getD top c 0) (r .tops c)) in
       rw (r .is ∙ m) (cc (many-same A B free (J (netToJoin top bottom c (tracksIn t d))) t b))
-
--- ---- one column after another
-
--- one column more fits
-pub fits-next : (n i each : ℕ) → i < n → i * each + each ≤ n * each
-fits-next n i each h = subst (λ (x : ℕ). x ≤ n * each) (suc-mul i each) (mul-le-mul-right each h)
-
--- where the next column begins
-pub at-next : (at i each : ℕ) → at ≡ i * each → at + each ≡ (i + 1) * each
-at-next at i each e = cc (add-one i, suc-mul i each)
-
--- what the arrays hold are their own tracks
-pub keeps-own : {last : List ℕ} {t : ℕ} {fam : Family} {c : ℕ} {tr a f l h n s w : List ℕ} → Keeps last t fam c tr a f l h n s w → Keeps last t fam c (tracksIn t a) a f l h n s w
-keeps-own k = record { holds = own (k .holds); marked = k .marked }
-
--- the rows and the last columns of a channel
-pub rows-and-lasts : {top bottom first last : List ℕ} {t : ℕ} {fam : Family} → Ready top bottom first last t fam → RowsAndLasts top bottom last
-rows-and-lasts r = record { rows = r .rows; most = r .most; tops = r .tops; bottoms = r .bottoms; lasts = r .spans .after }
-
--- the column's action, by the arrays' tracks, is that of the gap which they hold
-pub action-at : (top bottom : List ℕ) (c : ℕ) (x : Action) {t : ℕ} {tr a f l h n : List ℕ} → Holds t tr a f l h n → x ≡ action t top bottom c (tracksIn t a) → x ≡ action t top bottom c tr
-action-at top bottom c x {t} w e = e ∙ ap (action t top bottom c) (w .is)
-
--- the column's action fits the arrays' tracks
-pub fitting-at : (top bottom : List ℕ) (c : ℕ) (x : Action) {t : ℕ} {tr a f l h n : List ℕ} → Holds t tr a f l h n → x ≡ action t top bottom c (tracksIn t a) → Fitting top bottom c (action t top bottom c tr) tr → Fitting top bottom c x (tracksIn t a)
-fitting-at top bottom c x {t} {tr} {a} w e p =
-    subst (λ (z : Action). Fitting top bottom c z (tracksIn t a)) (sym e) (subst (λ (z : List ℕ). Fitting top bottom c (action t top bottom c z) z) (sym (w .is)) p)
-
--- the arrays hold the next gap
-gap-next : (top bottom : List ℕ) (i : ℕ) (x : Action) {t : ℕ} {a f l h n a′ f′ l′ h′ n′ : List ℕ} → Holds t (gap t top bottom i) a f l h n → x ≡ action t top bottom i (tracksIn t a)
-    → Holds t (after x (tracksIn t a)) a′ f′ l′ h′ n′ → Holds t (gap t top bottom (i + 1)) a′ f′ l′ h′ n′
-unfolding gap
-gap-next top bottom i x {t} {a} {f} {l} {h} {n} {a′} {f′} {l′} {h′} {n′} w e u =
-    let s : after x (tracksIn t a) ≡ after (action t top bottom i (gap t top bottom i)) (gap t top bottom i) = cc in
-    rw add-one (subst (λ (z : List ℕ). Holds t z a′ f′ l′ h′ n′) s u)
-
--- so do the sets
-pub at-gap-next : (top bottom : List ℕ) (c : ℕ) (x : Action) {last : List ℕ} {t : ℕ} {fam : Family} {a f l h n s w a′ f′ l′ h′ n′ s′ w′ : List ℕ}
-    → AtGap top bottom last t fam c a f l h n s w → x ≡ action t top bottom c (tracksIn t a) → Keeps last t fam (c + 1) (after x (tracksIn t a)) a′ f′ l′ h′ n′ s′ w′
-    → AtGap top bottom last t fam (c + 1) a′ f′ l′ h′ n′ s′ w′
-at-gap-next top bottom c x g e k = record { holds = gap-next top bottom c x (g .holds) e (k .holds); marked = k .marked }
-
--- a column's part of the layout
-pub part-length : (l : List ℕ) (at each : ℕ) → at + each ≤ length l → length (take (at + each - at) (drop at l)) ≡ each
-part-length l at each h = simp (length-take, length-drop) (omega arith)
-
--- the column's wires are flat
-pub flat-at : (t : ℕ) (top bottom : List ℕ) (c : ℕ) (x : Action) → x ≡ action t top bottom c (gap t top bottom c) → FitsAt t top bottom c → Flat (x .wires)
-flat-at t top bottom c x e f = subst (λ (z : Action). Flat (z .wires)) (sym e) (f .plain .flat)
-
--- one column more is drawn
-drawn-suc : (t : ℕ) (top bottom : List ℕ) (i : ℕ) → drawn t top bottom (i + 1) ≡ drawn t top bottom i ++ (verticals t (action t top bottom i (gap t top bottom i)) ++ gap t top bottom (i + 1))
-unfolding drawn
-drawn-suc t top bottom i = rw add-one
-
--- the entries of column i + 1, as the writer leaves them
-column-next : (top bottom : List ℕ) (i : ℕ) (x : Action) (ys : List ℕ) {t : ℕ} {a f l h n : List ℕ} → x ≡ action t top bottom i (gap t top bottom i)
-    → Holds t (gap t top bottom (i + 1)) a f l h n → ys ≡ verticals t x ++ tracksIn t a → drawn t top bottom (i + 1) ≡ drawn t top bottom i ++ ys
-column-next top bottom i x ys {t} {a} e u y =
-    let s : ys ≡ verticals t (action t top bottom i (gap t top bottom i)) ++ gap t top bottom (i + 1) = cc (u .is) in
-    drawn-suc t top bottom i ∙ ap (λ (z : List ℕ). drawn t top bottom i ++ z) (sym s)
-
--- its entries
-length-next : (t : ℕ) (top bottom : List ℕ) (i each : ℕ) (ys : List ℕ) → length (drawn t top bottom i) ≡ i * each → length ys ≡ each → drawn t top bottom (i + 1) ≡ drawn t top bottom i ++ ys
-    → length (drawn t top bottom (i + 1)) ≡ (i + 1) * each
-length-next t top bottom i each ys e f g = ap length g ∙ length-append (drawn t top bottom i) ys ∙ cc (add-one i, suc-mul i each)
-
--- the layout then
-layout-next : (t : ℕ) (top bottom l₀ l ys : List ℕ) (i at each : ℕ) → at ≡ i * each → l ≡ drawn t top bottom i ++ drop (i * each) l₀ → length (drawn t top bottom i) ≡ i * each
-    → drawn t top bottom (i + 1) ≡ drawn t top bottom i ++ ys
-    → take at l ++ (ys ++ drop (at + each - at) (drop at l)) ≡ drawn t top bottom (i + 1) ++ drop ((i + 1) * each) l₀
-layout-next t top bottom l₀ l ys i at each ea el en ed =
-    let D : List ℕ = drawn t top bottom i in
-    let R : List ℕ = drop (i * each) l₀ in
-    let len : length D ≡ at = en ∙ sym ea in
-    let t1 : take at l ≡ D = ap (take at) el ∙ take-at D R at len in
-    let d1 : drop at l ≡ R = ap (drop at) el ∙ drop-at D R at len in
-    let n1 : at + each - at ≡ each = add-sub-cancel-left at each in
-    let r1 : drop each R ≡ drop ((i + 1) * each) l₀ = drop-drop each (i * each) l₀ ∙ ap (λ (z : ℕ). drop z l₀) (ap (λ (z : ℕ). z + each) (sym ea) ∙ at-next at i each ea) in
-    let whole : take at l ++ (ys ++ drop (at + each - at) (drop at l)) ≡ D ++ (ys ++ drop ((i + 1) * each) l₀) = cc in
-    whole ∙ sym (append-assoc D ys (drop ((i + 1) * each) l₀)) ∙ ap (λ (z : List ℕ). z ++ drop ((i + 1) * each) l₀) (sym ed)
-
--- nothing is drawn yet
-pub none-drawn : (top bottom : List ℕ) (t : ℕ) (l : List ℕ) → DrawnTo top bottom t 0 l l
-unfolding drawn
-none-drawn top bottom t l = record { shows = rw zero-mul; sized = sym (zero-mul (2 * t + 1)) }
-
--- one column more
-pub drawn-next : (top bottom l₀ l ys : List ℕ) (i at : ℕ) (x : Action) {t : ℕ} {a f low high n : List ℕ} → at ≡ i * (2 * t + 1)
-    → DrawnTo top bottom t i l₀ l → x ≡ action t top bottom i (gap t top bottom i) → Holds t (gap t top bottom (i + 1)) a f low high n
-    → ys ≡ verticals t x ++ tracksIn t a → length ys ≡ 2 * t + 1
-    → DrawnTo top bottom t (i + 1) l₀ (take at l ++ (ys ++ drop (at + (2 * t + 1) - at) (drop at l)))
-drawn-next top bottom l₀ l ys i at x {t} ea D ex h ey en =
-    let d = column-next top bottom i x ys ex h ey in
-    record {
-      shows = layout-next t top bottom l₀ l ys i at (2 * t + 1) ea (D .shows) (D .sized) d;
-      sized = length-next t top bottom i (2 * t + 1) ys (D .sized) en d;
-    }

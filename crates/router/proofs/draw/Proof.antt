@@ -28,24 +28,31 @@ empty-requires c κs = search needs
 empty-requires-2 : tie.Need-empty-requires-2
 empty-requires-2 c κs = search needs
 
+no-nets-requires-4 : tie.Need-no-nets-requires-4
+no-nets-requires-4 c κs = search needs
+
+empty-requires-3 : tie.Need-empty-requires-3
+empty-requires-3 c κs = search needs
+
 sweep-columns-requires : tie.Need-sweep-columns-requires
 sweep-columns-requires c κs =
-    let e = c .before .before .before .before .before .before .before .before in
-    let o = e .before .before .before .before .before .before .before .before .before .before in
-    let tracks = e .before .before .before .before .before .before .no-tracks in
-    let free = e .before .before .before .before .before .all-free in
-    let low = e .before .before .before .before .no-nets in
-    let high = e .before .before .before .no-nets2 in
-    let number = e .before .before .no-nets3 in
-    let extended = e .before .empty in
-    let wide = e .empty2 in (
+    let o = c .before .before .before .before .before .before .before .before .before .before .before .before .before .before .before .before .before .before .before .before .before .before in
+    let tracks = c .before .before .before .before .before .before .before .before .before .before .before .before .before .before .before .before .before .before .no-tracks in
+    let free = c .before .before .before .before .before .before .before .before .before .before .before .before .before .before .before .before .before .all-free in
+    let low = c .before .before .before .before .before .before .before .before .before .before .before .before .before .before .before .before .no-nets in
+    let high = c .before .before .before .before .before .before .before .before .before .before .before .before .before .before .before .no-nets2 in
+    let number = c .before .before .before .before .before .before .before .before .before .before .before .before .before .before .no-nets3 in
+    let extended = c .before .before .before .before .before .before .before .before .before .before .before .before .before .empty in
+    let wide = c .before .before .before .before .before .before .before .before .before .before .before .before .empty2 in
+    let mates = c .before .before .before .before .before .before .before .before .before .before .before .no-nets4 in
+    let lone = c .before .before .before .before .before .before .before .before .before .before .empty3 in (
       o .pre .0,
       (
         o .pre .1 .0,
         (
           Begin.begins (o .args .top .now) (o .args .bottom .now) (o .args .last .now) (o .args .t) (o .args .family) (tracks .result) (free .result) (low .result)
-              (high .result) (number .result) (extended .result) (wide .result) (o .pre .0 .fits) (tracks .ensures) (free .ensures) (low .ensures) (high .ensures)
-              (number .ensures) (extended .ensures) (wide .ensures),
+              (high .result) (number .result) (extended .result) (wide .result) (mates .result) (lone .result) (o .pre .0 .fits) (tracks .ensures) (free .ensures) (low .ensures) (high .ensures)
+              (number .ensures) (extended .ensures) (wide .ensures) (mates .ensures) (lone .ensures),
           Added.sweep-fits (o .args .t) (o .args .top .now) (o .args .bottom .now) (length (o .args .layout .now)) (o .pre .1 .1 .1),
         ),
       ),
@@ -53,13 +60,13 @@ sweep-columns-requires c κs =
 
 finish-requires : tie.Need-finish-requires
 finish-requires c κs =
-    let e = c .before .before .before .before .before .before .before .before .before in
-    let s = e .sweep-columns in
-    let o = e .before .before .before .before .before .before .before .before .before .before .before .before .before .before .before .before .before .before .before in
-    let z = Added.fits-all (o .args .t) (o .args .top .now) (o .args .bottom .now) (s .ensures .0 .holds) 511 (length (o .args .layout .now)) (length (s .last .1 .1 .0))
+    let s = c .before .before .before .before .before .before .before .before .before .sweep-columns in
+    let o = c .before .before .before .before .before .before .before .before .before .before .before .before .before .before .before .before .before .before .before .before .before .before .before .before .before .before .before .before .before .before .before .before in
+    let g = s .ensures .0 .keeps in
+    let z = Added.fits-all (o .args .t) (o .args .top .now) (o .args .bottom .now) (g .holds) 511 (length (o .args .layout .now)) (length (s .last .1 .1 .0))
     (s .kept .1 .1 .0) (o .pre .1 .1 .0) (o .pre .1 .1 .1) in
-    let h = own (s .ensures .0 .holds) in
-    (o .pre .0 .most, (z .0, (h, (Begin.all-remain (o .args .top .now) (o .args .bottom .now) (o .args .first .now) (o .args .last .now) _ _ (o .args .family) (o .pre .0 .spans) (o .pre .0 .rows) h (s .ensures .0 .marked), z .1))))
+    let h = own (g .holds) in
+    (o .pre .0 .most, (z .0, (h, (Begin.all-remain (o .args .top .now) (o .args .bottom .now) (o .args .first .now) (o .args .last .now) _ _ (o .args .family) (o .pre .0 .spans) (o .pre .0 .rows) h (g .marked), z .1))))
 
 same-length : tie.Need-same-length
 same-length c = search needs
@@ -67,10 +74,9 @@ same-length c = search needs
 returns : tie.Need-returns
 returns c =
     let f = c .before .before .finish in
-    let e = c .before .before .before .before .before .before .before .before .before .before .before .before in
-    let s = e .sweep-columns in
-    let o = e .before .before .before .before .before .before .before .before .before .before .before .before .before .before .before .before .before .before .before in
-    Added.all-drawn (o .args .t) (o .args .top .now) (o .args .bottom .now) (s .ensures .0 .holds) (o .args .layout .now) (s .last .1 .1 .0) (f .last .0) (f .result) (s .ensures .1 .shows) (s .ensures .1 .sized) (f .ensures .0) (f .ensures .1)
+    let s = c .before .before .before .before .before .before .before .before .before .before .before .before .sweep-columns in
+    let o = c .before .before .before .before .before .before .before .before .before .before .before .before .before .before .before .before .before .before .before .before .before .before .before .before .before .before .before .before .before .before .before .before .before .before .before in
+    Added.all-drawn (o .args .t) (o .args .top .now) (o .args .bottom .now) (s .ensures .0 .keeps .holds) (o .args .layout .now) (s .last .1 .1 .0) (f .last .0) (f .result) (s .ensures .1 .shows) (s .ensures .1 .sized) (f .ensures .0) (f .ensures .1)
 
 pub draw-spec : {M : Type 1} → statement M
 draw-spec =
@@ -83,6 +89,8 @@ draw-spec =
     no-nets-requires-3
     empty-requires
     empty-requires-2
+    no-nets-requires-4
+    empty-requires-3
     sweep-columns-requires
     finish-requires
     same-length

@@ -1,12 +1,7 @@
 -- `join_net` meets its contract, by `joining-written`.
-use Rattle.router.proofs.Laws.Sweeps.{part-length}
+use Rattle.router.proofs.Laws.Steps.{part-length}
 use Prim.Native.Nat.{_+_, _*_}
-use mathlib.Core.Logic.{inl, inr}
-use mathlib.Core.Path.{subst, sym, refl}
-use Rattle.sweep.specs.declared.Action.{Action}
-use Rattle.sweep.specs.Working.{Flat}
 use Rattle.router.proofs.Laws.Added.{joining-written}
-use native.Mathlib.Omega.{arith}
 use borrow.Author.Needs.{needs}
 use Rattle.router.proofs.added.join_net.Statement.{statement}
 use Rattle.router.proofs.added.join_net.Tie as tie
@@ -59,7 +54,6 @@ write-column-requires c κs =
       o .pre .1 .0 .fits,
       part-length (o .args .layout .now) (o .args .w * (2 * o .args .t + 1)) (2 * o .args .t + 1) (o .pre .1 .1),
       c .before .before .drop-net .ensures .sized,
-      subst (λ (x : Action). Flat (x .wires)) (sym (c .before .before .before .before .before .before .before .before .joining .ensures)) (record { lower = inl refl; upper = inr (omega arith) }),
     )
 
 same-length : tie.Need-same-length

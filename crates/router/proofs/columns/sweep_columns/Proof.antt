@@ -1,5 +1,5 @@
 -- `sweep_columns` meets its contract. The invariant: the columns 1 to i are drawn, and the arrays and sets hold gap i.
-use Rattle.router.proofs.Laws.Sweeps
+use Rattle.router.proofs.Laws.Steps
 use Rattle.router.specs.Working.{AtGap, DrawnTo}
 use lib.ListN.{length}
 use mathlib.Core.Path.{_≡_, refl, subst, _∙_}
@@ -10,12 +10,12 @@ use Rattle.router.proofs.columns.sweep_columns.Statement.{statement}
 use Rattle.router.proofs.columns.sweep_columns.Tie as tie
 
 abbrev Inv-loop : tie.InvT-loop
-Inv-loop top bottom layout₀ first last tracks₀ free₀ low₀ high₀ many₀ extended₀ wide₀ t family each i₀ at₀ layout tracks free low high many extended wide i at =
-    (i ≤ length top) × (at ≡ i * each) × AtGap top bottom last t family i tracks free low high many extended wide
+Inv-loop top bottom layout₀ first last tracks₀ free₀ low₀ high₀ many₀ extended₀ wide₀ mates₀ lone₀ t family each i₀ at₀ layout tracks free low high many extended wide mates lone i at =
+    (i ≤ length top) × (at ≡ i * each) × AtGap top bottom last t family i tracks free low high many extended wide mates lone
     × DrawnTo top bottom t i layout₀ layout × (length layout ≡ length layout₀)
 
 abbrev μ-loop : tie.MeasureT-loop
-μ-loop top bottom layout₀ first last tracks₀ free₀ low₀ high₀ many₀ extended₀ wide₀ t family each i₀ at₀ layout tracks free low high many extended wide i at =
+μ-loop top bottom layout₀ first last tracks₀ free₀ low₀ high₀ many₀ extended₀ wide₀ mates₀ lone₀ t family each i₀ at₀ layout tracks free low high many extended wide mates lone i at =
     length top - i
 
 mul-each : tie.Need-mul-each Inv-loop μ-loop
@@ -27,11 +27,11 @@ add-each c = omega (arith, c .before .before .before .pre .0 .fits)
 loop-holds : tie.Need-loop-holds Inv-loop μ-loop
 loop-holds c =
     let o = c .before .before .before in
-    (omega arith, omega arith, o .pre .1 .1 .0, Sweeps.none-drawn (o .args .top .now) (o .args .bottom .now) (o .args .t) (o .args .layout .now), refl)
+    (omega arith, omega arith, o .pre .1 .1 .0, Steps.none-drawn (o .args .top .now) (o .args .bottom .now) (o .args .t) (o .args .layout .now), refl)
 
 advance-requires : tie.Need-advance-requires Inv-loop μ-loop
 advance-requires c κs =
-    let e = c .before .before .before .before .before .before .before in
+    let e = c .before .before .before .before .before .before .before .before .before in
     let l = e .before .loop in
     let o = e .before .before .before .before .before in
     let b = e .loop-test .taken in
@@ -39,17 +39,17 @@ advance-requires c κs =
 
 add-write-column : tie.Need-add-write-column Inv-loop μ-loop
 add-write-column c =
-    let e = c .before .before .before .before .before .before .before .before in
+    let e = c .before .before .before .before .before .before .before .before .before .before in
     let l = e .before .loop in
     let o = e .before .before .before .before .before in
-    omega (arith, Sweeps.fits-next (length (o .args .top .now)) (l .i) (2 * o .args .t + 1) (e .loop-test .taken), o .pre .1 .1 .1, l .inv .1, l .inv .4, o .good .1 .1 .0 .0, o .good .1 .1 .0 .1)
+    omega (arith, Steps.fits-next (length (o .args .top .now)) (l .i) (2 * o .args .t + 1) (e .loop-test .taken), o .pre .1 .1 .1, l .inv .1, l .inv .4, o .good .1 .1 .0 .0, o .good .1 .1 .0 .1)
 
 mul-write-column : tie.Need-mul-write-column Inv-loop μ-loop
 mul-write-column c =
-    let e = c .before .before .before .before .before .before .before .before in
+    let e = c .before .before .before .before .before .before .before .before .before .before in
     let l = e .before .loop in
     let o = e .before .before .before .before .before in
-    omega (arith, Sweeps.fits-next (length (o .args .top .now)) (l .i) (2 * o .args .t + 1) (e .loop-test .taken), o .pre .1 .1 .1, l .inv .1, l .inv .4, o .good .1 .1 .0 .0, o .good .1 .1 .0 .1)
+    omega (arith, Steps.fits-next (length (o .args .top .now)) (l .i) (2 * o .args .t + 1) (e .loop-test .taken), o .pre .1 .1 .1, l .inv .1, l .inv .4, o .good .1 .1 .0 .0, o .good .1 .1 .0 .1)
 
 sub-write-column : tie.Need-sub-write-column Inv-loop μ-loop
 sub-write-column c = search needs
@@ -59,51 +59,52 @@ part-write-column-start c = search needs
 
 part-write-column-end : tie.Need-part-write-column-end Inv-loop μ-loop
 part-write-column-end c =
-    let e = c .before .before .before .before .before .before .before .before in
+    let e = c .before .before .before .before .before .before .before .before .before .before in
     let l = e .before .loop in
     let o = e .before .before .before .before .before in
-    omega (arith, Sweeps.fits-next (length (o .args .top .now)) (l .i) (2 * o .args .t + 1) (e .loop-test .taken), o .pre .1 .1 .1, l .inv .1, l .inv .4, o .good .1 .1 .0 .0, o .good .1 .1 .0 .1)
+    omega (arith, Steps.fits-next (length (o .args .top .now)) (l .i) (2 * o .args .t + 1) (e .loop-test .taken), o .pre .1 .1 .1, l .inv .1, l .inv .4, o .good .1 .1 .0 .0, o .good .1 .1 .0 .1)
 
 write-column-requires : tie.Need-write-column-requires Inv-loop μ-loop
 write-column-requires c κs =
-    let e = c .before .before .before .before .before .before .before .before .before .before in
+    let e = c .before .before .before .before .before .before .before .before .before .before .before .before in
     let l = e .before .loop in
     let o = e .before .before .before .before .before in
     let k = c .before .before .advance in (
       o .pre .0 .fits,
-      Sweeps.part-length (l .layout) (l .at) (2 * o .args .t + 1)
-          (omega (arith, Sweeps.fits-next (length (o .args .top .now)) (l .i) (2 * o .args .t + 1) (e .loop-test .taken), o .pre .1 .1 .1, l .inv .1, l .inv .4, o .good .1 .1 .0 .0, o .good .1 .1 .0 .1)),
-      k .ensures .1 .holds .sized,
-      Sweeps.flat-at (o .args .t) (o .args .top .now) (o .args .bottom .now) (l .i) (k .result) (k .ensures .0) (o .pre .1 .0 (l .i) (e .loop-test .taken)),
+      Steps.part-length (l .layout) (l .at) (2 * o .args .t + 1)
+          (omega (arith, Steps.fits-next (length (o .args .top .now)) (l .i) (2 * o .args .t + 1) (e .loop-test .taken), o .pre .1 .1 .1, l .inv .1, l .inv .4, o .good .1 .1 .0 .0, o .good .1 .1 .0 .1)),
+      k .ensures .1 .keeps .holds .sized,
     )
 
 add-at : tie.Need-add-at Inv-loop μ-loop
 add-at c =
-    let e = c .before .before .before .before .before .before .before .before .before .before .before .before .before in
+    let e = c .before .before .before .before .before .before .before .before .before .before .before .before .before .before .before in
     let l = e .before .loop in
     let o = e .before .before .before .before .before in
-    omega (arith, Sweeps.fits-next (length (o .args .top .now)) (l .i) (2 * o .args .t + 1) (e .loop-test .taken), o .pre .1 .1 .1, l .inv .1, l .inv .4, o .good .1 .1 .0 .0, o .good .1 .1 .0 .1)
+    omega (arith, Steps.fits-next (length (o .args .top .now)) (l .i) (2 * o .args .t + 1) (e .loop-test .taken), o .pre .1 .1 .1, l .inv .1, l .inv .4, o .good .1 .1 .0 .0, o .good .1 .1 .0 .1)
 
 add-i : tie.Need-add-i Inv-loop μ-loop
-add-i c = omega (arith, c .before .before .before .before .before .before .before .before .before .before .before .before .before .loop-test .taken, c .before .before .before .before .before .before .before .before .before .before .before .before .before .before .before .before .before .before .pre .0 .most)
+add-i c =
+    let e = c .before .before .before .before .before .before .before .before .before .before .before .before .before .before .before in
+    omega (arith, e .loop-test .taken, e .before .before .before .before .before .pre .0 .most)
 
 loop-less : tie.Need-loop-less Inv-loop μ-loop
-loop-less c = omega (arith, c .before .before .before .before .before .before .before .before .before .before .before .before .before .loop-test .taken)
+loop-less c = omega (arith, c .before .before .before .before .before .before .before .before .before .before .before .before .before .before .before .loop-test .taken)
 
 loop-again : tie.Need-loop-again Inv-loop μ-loop
 loop-again c =
-    let e = c .before .before .before .before .before .before .before .before .before .before .before .before .before in
+    let e = c .before .before .before .before .before .before .before .before .before .before .before .before .before .before .before in
     let l = e .before .loop in
     let o = e .before .before .before .before .before in
     let k = c .before .before .before .before .before .advance in
     let y = c .before .before .write-column in
     let b = e .loop-test .taken in
-    let p = Sweeps.part-length (l .layout) (l .at) (2 * o .args .t + 1)
-    (omega (arith, Sweeps.fits-next (length (o .args .top .now)) (l .i) (2 * o .args .t + 1) b, o .pre .1 .1 .1, l .inv .1, l .inv .4, o .good .1 .1 .0 .0, o .good .1 .1 .0 .1)) in (
+    let p = Steps.part-length (l .layout) (l .at) (2 * o .args .t + 1)
+    (omega (arith, Steps.fits-next (length (o .args .top .now)) (l .i) (2 * o .args .t + 1) b, o .pre .1 .1 .1, l .inv .1, l .inv .4, o .good .1 .1 .0 .0, o .good .1 .1 .0 .1)) in (
       omega arith,
-      Sweeps.at-next (l .at) (l .i) (2 * o .args .t + 1) (l .inv .1),
+      Steps.at-next (l .at) (l .i) (2 * o .args .t + 1) (l .inv .1),
       k .ensures .1,
-      Sweeps.drawn-next (o .args .top .now) (o .args .bottom .now) (o .args .layout .now) (l .layout) (y .last .0) (l .i) (l .at) (k .result) (l .inv .1) (l .inv .3) (k .ensures .0) (k .ensures .1 .holds) (y .ensures) (y .kept .0 ∙ p),
+      Steps.drawn-next (o .args .top .now) (o .args .bottom .now) (o .args .layout .now) (l .layout) (y .last .0) (l .i) (l .at) (k .result) (l .inv .1) (l .inv .3) (k .ensures .0) (k .ensures .1 .keeps .holds) (y .ensures) (y .kept .0 ∙ p),
       c .before .layout .given .1 ∙ l .inv .4,
     )
 
@@ -115,7 +116,7 @@ returns c =
     let o = c .before .before .before .before .before in
     let l = c .before .loop in
     let e : l .i ≡ length (o .args .top .now) = omega arith in (
-      subst (λ (z : ℕ). AtGap (o .args .top .now) (o .args .bottom .now) (o .args .last .now) (o .args .t) (o .args .family) z (l .tracks) (l .free) (l .low) (l .high) (l .many) (l .extended) (l .wide)) e (l .inv .2),
+      subst (λ (z : ℕ). AtGap (o .args .top .now) (o .args .bottom .now) (o .args .last .now) (o .args .t) (o .args .family) z (l .tracks) (l .free) (l .low) (l .high) (l .many) (l .extended) (l .wide) (l .mates) (l .lone)) e (l .inv .2),
       subst (λ (z : ℕ). DrawnTo (o .args .top .now) (o .args .bottom .now) (o .args .t) z (o .args .layout .now) (l .layout)) e (l .inv .3),
     )
 

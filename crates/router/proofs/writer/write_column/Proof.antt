@@ -5,7 +5,7 @@ use Rattle.router.proofs.writer.write_column.Statement.{statement}
 use Rattle.router.proofs.writer.write_column.Tie as tie
 
 write-verticals-requires : tie.Need-write-verticals-requires
-write-verticals-requires c κs = (c .before .before .pre .0, c .before .before .pre .1, c .before .before .pre .3)
+write-verticals-requires c κs = (c .before .before .pre .0, c .before .before .pre .1)
 
 copy-tracks-requires : tie.Need-copy-tracks-requires
 copy-tracks-requires c κs =

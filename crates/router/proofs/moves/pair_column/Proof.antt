@@ -5,8 +5,8 @@ use Rattle.sweep.specs.Rules
 use mathlib.Core.Path.{refl, sym, _∙_}
 use native.Mathlib.Omega.{arith}
 use borrow.Author.Needs.{needs}
-use Rattle.router.proofs.columns.pair_column.Statement.{statement}
-use Rattle.router.proofs.columns.pair_column.Tie as tie
+use Rattle.router.proofs.moves.pair_column.Statement.{statement}
+use Rattle.router.proofs.moves.pair_column.Tie as tie
 
 cast-go-full : tie.Need-cast-go-full
 cast-go-full c = omega (arith, c .before .before .before .before .pre .0)

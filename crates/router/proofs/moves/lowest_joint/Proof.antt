@@ -1,8 +1,8 @@
 -- `lowest_joint` meets its contract.
 use mathlib.Core.Path.{_∙_}
 use borrow.Author.Needs.{needs}
-use Rattle.router.proofs.columns.lowest_joint.Statement.{statement}
-use Rattle.router.proofs.columns.lowest_joint.Tie as tie
+use Rattle.router.proofs.moves.lowest_joint.Statement.{statement}
+use Rattle.router.proofs.moves.lowest_joint.Tie as tie
 
 lowest-net-requires : tie.Need-lowest-net-requires
 lowest-net-requires c κs = search needs

@@ -1,0 +1,136 @@
+-- From one gap to the next, and the columns drawn so far.
+use Prim.Native.Nat.{ℕ, suc, _+_, _-_, _*_, _≤_, _<_}
+use mathlib.Core.Path.{_≡_, refl, sym, ap, subst, _∙_}
+use mathlib.Core.Bool.{true}
+use mathlib.Core.List.{List, _++_, append-assoc}
+use native.Mathlib.Nat.{zero-mul, suc-mul, mul-le-mul-right, add-sub-cancel-left}
+use native.Mathlib.Numerals.{add-one}
+use native.Mathlib.Omega.{arith}
+use lib.ListN.{length, take, drop, length-append, length-take, length-drop}
+use lib.Seq.{take-at, drop-at, drop-drop}
+use Rattle.grid.specs.declared.Family.{Family}
+use Rattle.grid.specs.declared.Family.the-variants.{TwoPin, ThreePin, ManyPin}
+use Rattle.grid.specs.Channel.{family}
+use Rattle.sweep.specs.declared.Action.{Action}
+use Rattle.sweep.specs.declared.Move.{Move}
+use Rattle.sweep.specs.Tracks.{after, verticals}
+use Rattle.sweep.specs.Drawing
+use Rattle.sweep.specs.Drawing.{moveOf, move, matesAfter, state, gap, moveAt, drawn}
+use Rattle.router.specs.Working.{tracksIn, Holds, RowsAndLasts, Ready, Fitting, FitsAt, Keeps, Mated, forms, AtGap, DrawnTo}
+use Rattle.router.proofs.Laws.Arrays.{own}
+
+-- one column more fits
+pub fits-next : (n i each : ℕ) → i < n → i * each + each ≤ n * each
+fits-next n i each h = subst (λ (x : ℕ). x ≤ n * each) (suc-mul i each) (mul-le-mul-right each h)
+
+-- where the next column begins
+pub at-next : (at i each : ℕ) → at ≡ i * each → at + each ≡ (i + 1) * each
+at-next at i each e = cc (add-one i, suc-mul i each)
+
+-- what the arrays hold are their own tracks
+pub keeps-own : {last : List ℕ} {t : ℕ} {fam : Family} {c : ℕ} {tr a f l h n s w : List ℕ} → Keeps last t fam c tr a f l h n s w → Keeps last t fam c (tracksIn t a) a f l h n s w
+keeps-own k = record { holds = own (k .holds); marked = k .marked }
+
+-- the rows and the last columns of a channel
+pub rows-and-lasts : {top bottom first last : List ℕ} {t : ℕ} {fam : Family} → Ready top bottom first last t fam → RowsAndLasts top bottom last
+rows-and-lasts r = record { rows = r .rows; most = r .most; tops = r .tops; bottoms = r .bottoms; lasts = r .spans .after }
+
+-- THE MATES
+-- what the arrays hold are their own mates
+pub mated-own : {fam : Family} {m number mates l : List ℕ} → Mated fam m number mates l → Mated fam mates number mates l
+mated-own k = record { is = λ e. refl; small = k .small; lone = k .lone }
+
+-- a move depends on the mates only where pairs are formed
+move-mates : (fam : Family) (t : ℕ) (top bottom : List ℕ) (c : ℕ) (tr m mates : List ℕ) → (forms fam ≡ true → mates ≡ m) → moveOf t top bottom fam c tr mates ≡ moveOf t top bottom fam c tr m
+unfolding moveOf
+move-mates TwoPin t top bottom c tr m mates e = refl
+move-mates ThreePin t top bottom c tr m mates e = ap (moveOf t top bottom ThreePin c tr) (e refl)
+move-mates ManyPin t top bottom c tr m mates e = refl
+
+module _ (top bottom : List ℕ) (c : ℕ) (x : Move) {last : List ℕ} {t : ℕ} {fam : Family} {a f l h n s w m q : List ℕ} (g : AtGap top bottom last t fam c a f l h n s w m q)
+    (r : family top bottom ≡ fam) (e : x ≡ move t top bottom c (tracksIn t a) m) where
+  -- the column's move, by the arrays, is that of the gap which they hold
+  pub move-at : x ≡ moveAt t top bottom c
+  unfolding moveAt move
+  move-at =
+      e ∙ ap (λ (z : Family). moveOf t top bottom z c (tracksIn t a) m) r ∙ move-mates fam t top bottom c (tracksIn t a) (state t top bottom c .mates) m (g .mated .is)
+      ∙ ap (λ (z : Family). moveOf t top bottom z c (tracksIn t a) (state t top bottom c .mates)) (sym r)
+      ∙ ap (λ (z : List ℕ). move t top bottom c z (state t top bottom c .mates)) (g .keeps .holds .is)
+
+  -- it fits the arrays' tracks
+  pub fitting-at : FitsAt t top bottom c → Fitting top bottom c x (tracksIn t a)
+  fitting-at p = subst (λ (z : Move). Fitting top bottom c z (tracksIn t a)) (sym move-at) (subst (λ (z : List ℕ). Fitting top bottom c (moveAt t top bottom c) z) (sym (g .keeps .holds .is)) p)
+
+  -- the tracks and the mates in the next gap
+  tracks-next : after (x .action) (tracksIn t a) ≡ gap t top bottom (suc c)
+  unfolding state moveAt
+  tracks-next = ap (λ (z : Move). after (z .action) (tracksIn t a)) move-at ∙ ap (after (moveAt t top bottom c .action)) (g .keeps .holds .is)
+
+  mates-next : m ≡ state t top bottom c .mates → matesAfter top bottom c x m ≡ state t top bottom (suc c) .mates
+  unfolding state moveAt
+  mates-next i = ap (λ (z : Move). matesAfter top bottom c z m) move-at ∙ ap (matesAfter top bottom c (moveAt t top bottom c)) i
+
+  -- the arrays and sets hold the next gap
+  pub at-gap-next : {a′ f′ l′ h′ n′ s′ w′ m′ q′ : List ℕ} → Keeps last t fam (c + 1) (after (x .action) (tracksIn t a)) a′ f′ l′ h′ n′ s′ w′
+      → Mated fam (matesAfter top bottom c x m) n′ m′ q′ → AtGap top bottom last t fam (c + 1) a′ f′ l′ h′ n′ s′ w′ m′ q′
+  at-gap-next {a′} {f′} {l′} {h′} {n′} {s′} {w′} {m′} {q′} k p = record {
+    keeps = subst (λ (z : List ℕ). Keeps last t fam (c + 1) z a′ f′ l′ h′ n′ s′ w′) (tracks-next ∙ ap (gap t top bottom) (sym (add-one c))) k;
+    mated = record {
+      is = λ z. p .is z ∙ mates-next (g .mated .is z) ∙ ap (λ (i : ℕ). state t top bottom i .mates) (sym (add-one c));
+      small = p .small;
+      lone = p .lone;
+    };
+  }
+
+-- a column's part of the layout
+pub part-length : (l : List ℕ) (at each : ℕ) → at + each ≤ length l → length (take (at + each - at) (drop at l)) ≡ each
+part-length l at each h = simp (length-take, length-drop) (omega arith)
+
+-- one column more is drawn
+drawn-suc : (t : ℕ) (top bottom : List ℕ) (i : ℕ) → drawn t top bottom (i + 1) ≡ drawn t top bottom i ++ (verticals t (moveAt t top bottom i .action) ++ gap t top bottom (i + 1))
+unfolding drawn
+drawn-suc t top bottom i = rw add-one
+
+-- the entries of column i + 1, as the writer leaves them
+column-next : (top bottom : List ℕ) (i : ℕ) (x : Action) (ys : List ℕ) {t : ℕ} {a f l h n : List ℕ} → x ≡ moveAt t top bottom i .action
+    → Holds t (gap t top bottom (i + 1)) a f l h n → ys ≡ verticals t x ++ tracksIn t a → drawn t top bottom (i + 1) ≡ drawn t top bottom i ++ ys
+column-next top bottom i x ys {t} {a} e u y =
+    let s : ys ≡ verticals t (moveAt t top bottom i .action) ++ gap t top bottom (i + 1) = cc (u .is) in
+    drawn-suc t top bottom i ∙ ap (λ (z : List ℕ). drawn t top bottom i ++ z) (sym s)
+
+-- its entries
+length-next : (t : ℕ) (top bottom : List ℕ) (i each : ℕ) (ys : List ℕ) → length (drawn t top bottom i) ≡ i * each → length ys ≡ each → drawn t top bottom (i + 1) ≡ drawn t top bottom i ++ ys
+    → length (drawn t top bottom (i + 1)) ≡ (i + 1) * each
+length-next t top bottom i each ys e f g = ap length g ∙ length-append (drawn t top bottom i) ys ∙ cc (add-one i, suc-mul i each)
+
+-- the layout then
+layout-next : (t : ℕ) (top bottom l₀ l ys : List ℕ) (i at each : ℕ) → at ≡ i * each → l ≡ drawn t top bottom i ++ drop (i * each) l₀ → length (drawn t top bottom i) ≡ i * each
+    → drawn t top bottom (i + 1) ≡ drawn t top bottom i ++ ys
+    → take at l ++ (ys ++ drop (at + each - at) (drop at l)) ≡ drawn t top bottom (i + 1) ++ drop ((i + 1) * each) l₀
+layout-next t top bottom l₀ l ys i at each ea el en ed =
+    let D : List ℕ = drawn t top bottom i in
+    let R : List ℕ = drop (i * each) l₀ in
+    let len : length D ≡ at = en ∙ sym ea in
+    let t1 : take at l ≡ D = ap (take at) el ∙ take-at D R at len in
+    let d1 : drop at l ≡ R = ap (drop at) el ∙ drop-at D R at len in
+    let n1 : at + each - at ≡ each = add-sub-cancel-left at each in
+    let r1 : drop each R ≡ drop ((i + 1) * each) l₀ = drop-drop each (i * each) l₀ ∙ ap (λ (z : ℕ). drop z l₀) (ap (λ (z : ℕ). z + each) (sym ea) ∙ at-next at i each ea) in
+    let whole : take at l ++ (ys ++ drop (at + each - at) (drop at l)) ≡ D ++ (ys ++ drop ((i + 1) * each) l₀) = cc in
+    whole ∙ sym (append-assoc D ys (drop ((i + 1) * each) l₀)) ∙ ap (λ (z : List ℕ). z ++ drop ((i + 1) * each) l₀) (sym ed)
+
+-- nothing is drawn yet
+pub none-drawn : (top bottom : List ℕ) (t : ℕ) (l : List ℕ) → DrawnTo top bottom t 0 l l
+unfolding drawn
+none-drawn top bottom t l = record { shows = rw zero-mul; sized = sym (zero-mul (2 * t + 1)) }
+
+-- one column more
+pub drawn-next : (top bottom l₀ l ys : List ℕ) (i at : ℕ) (x : Action) {t : ℕ} {a f low high n : List ℕ} → at ≡ i * (2 * t + 1)
+    → DrawnTo top bottom t i l₀ l → x ≡ moveAt t top bottom i .action → Holds t (gap t top bottom (i + 1)) a f low high n
+    → ys ≡ verticals t x ++ tracksIn t a → length ys ≡ 2 * t + 1
+    → DrawnTo top bottom t (i + 1) l₀ (take at l ++ (ys ++ drop (at + (2 * t + 1) - at) (drop at l)))
+drawn-next top bottom l₀ l ys i at x {t} ea D ex h ey en =
+    let d = column-next top bottom i x ys ex h ey in
+    record {
+      shows = layout-next t top bottom l₀ l ys i at (2 * t + 1) ea (D .shows) (D .sized) d;
+      sized = length-next t top bottom i (2 * t + 1) ys (D .sized) en d;
+    }

@@ -1,0 +1,194 @@
+// What a column does, by its pins, the free tracks, the net of rule 2 and the unpaired double nets.
+use crate::choose;
+use crate::nets;
+use crate::pins;
+use grid::Family;
+use rules::actions;
+use rules::many_pin;
+use rules::three_pin;
+use sweep::Action;
+use sweep::Joint;
+use sweep::Move;
+use sweep::Pin;
+ghost use mathlib.Core.Path.{_≡_};
+ghost use mathlib.Core.Bool.{_&&_, _||_};
+ghost use Prim.Native.Nat.{ℕ, _<_, _≤_};
+ghost use lib.Dec.{eqb};
+ghost use lib.ListN.{length};
+ghost use Rattle.sweep.specs.Drawing.{move as moveBy};
+ghost use Rattle.router.specs.Working.{tracksIn, Frees, LowsAndHighs, Next, IsLowestJoint, ChosenTwo, ChosenThree, Ready, Keeps, Mated};
+
+// The net that rule 2 of a two-pin channel joins in column c + 1: the lowest of the extended ones.
+fn lowest_joint(
+    tracks: &[u16; 512],
+    last: &[u16; 257],
+    low: &[u16; 257],
+    high: &[u16; 257],
+    extended: &[u64; 8],
+    t: usize,
+    c: u16,
+) -> Joint
+    requires { ⌜ (t ≤ 511) × (length (now tracks) ≡ 512) × (c < 256) ⌝ }
+    requires { ⌜ LowsAndHighs (now low) (now high) (tracksIn t (now tracks)) ⌝ }
+    requires { ⌜ ((v : ℕ) → Next (now extended) 0 v → v ≤ 256) ⌝ }
+    ensures { λ r. ⌜ IsLowestJoint (now (last .entry)) (now (low .entry)) (now (high .entry)) (now (extended .entry))
+        (tracksIn t (now (tracks .entry))) c r ⌝ }
+{
+    nets::joint_at(tracks, last, low, high, t, c, nets::lowest_net(extended))
+}
+
+// What column c + 1 of a two-pin channel does; only starting pins ask for the free tracks and the net of rule 2.
+fn pair_column(
+    a: Pin,
+    b: Pin,
+    c: u16,
+    tracks: &[u16; 512],
+    free: &[u64; 8],
+    last: &[u16; 257],
+    low: &[u16; 257],
+    high: &[u16; 257],
+    extended: &[u64; 8],
+    t: usize,
+) -> Action
+    requires { ⌜ (a .kind ≤ 3) × (b .kind ≤ 3) × (c < 256) × (t ≤ 511) × (length (now tracks) ≡ 512) × Frees t (now tracks) (now free) ⌝ }
+    requires { ⌜ LowsAndHighs (now low) (now high) (tracksIn t (now tracks)) ⌝ }
+    requires { ⌜ ((v : ℕ) → Next (now extended) 0 v → v ≤ 256) ⌝ }
+    ensures { λ r. ⌜ ChosenTwo t a b (now (last .entry)) (now (low .entry)) (now (high .entry)) (now (extended .entry))
+        (tracksIn t (now (tracks .entry))) c r ⌝ }
+{
+    if (a.net != 0) & (a.net == b.net) {
+        return actions::go_full(t as u16 + 1, a.net, 0);
+    }
+    match 4 * a.kind + b.kind {
+        0 => actions::go_straight(),
+        1 => choose::bottom_starts(
+            a,
+            b,
+            free,
+            lowest_joint(tracks, last, low, high, extended, t, c),
+        ),
+        3 => actions::bottom_ends(a, b),
+        4 => choose::top_starts(
+            a,
+            b,
+            free,
+            lowest_joint(tracks, last, low, high, extended, t, c),
+        ),
+        5 => choose::both_start(
+            a,
+            b,
+            free,
+            lowest_joint(tracks, last, low, high, extended, t, c),
+        ),
+        7 => actions::bottom_ends(a, b),
+        12 => actions::top_ends(a, b),
+        13 => actions::top_ends(a, b),
+        15 => actions::both_end(a, b),
+        // No pin of a two-pin net continues.
+        _ => actions::go_straight(),
+    }
+}
+
+// Whether a column asks for the unpaired double nets: a pin starts, and there is no net to join.
+fn asks_doubles(a: Pin, b: Pin, n: Joint) -> bool
+    ensures { λ r. ⌜ r ≡ (eqb (n .net) 0 && (eqb (a .kind) 1 || eqb (b .kind) 1)) ⌝ }
+{
+    (n.net == 0) & ((a.kind == 1) | (b.kind == 1))
+}
+
+// What column c + 1 of a three-pin channel does.
+fn three_column(
+    a: Pin,
+    b: Pin,
+    c: u16,
+    tracks: &[u16; 512],
+    free: &[u64; 8],
+    last: &[u16; 257],
+    low: &[u16; 257],
+    high: &[u16; 257],
+    extended: &[u64; 8],
+    lone: &[u64; 8],
+    t: usize,
+) -> Move
+    requires { ⌜ (a .net ≤ 256) × (b .net ≤ 256) × (c < 256) × (t ≤ 511) × (length (now tracks) ≡ 512) × Frees t (now tracks) (now free) ⌝ }
+    requires { ⌜ LowsAndHighs (now low) (now high) (tracksIn t (now tracks)) ⌝ }
+    requires { ⌜ ((v : ℕ) → Next (now extended) 0 v → v ≤ 256) ⌝ }
+    ensures { λ r. ⌜ ChosenThree t a b (now (last .entry)) (now (low .entry)) (now (high .entry)) (now (extended .entry)) (now (lone .entry))
+        (tracksIn t (now (tracks .entry))) c r ⌝ }
+{
+    let f = nets::free_tracks(free);
+    let n = lowest_joint(tracks, last, low, high, extended, t, c);
+    let i = a.net as usize;
+    let j = b.net as usize;
+    let ea = last[i];
+    let eb = last[j];
+    let last_row = t as u16 + 1;
+    if asks_doubles(a, b, n) {
+        let v = pairs::latest(last, lone);
+        let w = pairs::other(lone, v);
+        let d = pairs::double_at(last, low, high, v);
+        let m = pairs::double_at(last, low, high, w);
+        return three_pin::choose_three(last_row, a, b, ea, eb, f, n, d, m);
+    }
+    let none = pairs::double_at(last, low, high, 0);
+    three_pin::choose_three(last_row, a, b, ea, eb, f, n, none, none)
+}
+
+// What column c + 1 does; by the sweep of its family.
+pub(crate) fn column_at(
+    top: &[u16],
+    bottom: &[u16],
+    c: usize,
+    first: &[u16; 257],
+    last: &[u16; 257],
+    tracks: &[u16; 512],
+    free: &[u64; 8],
+    low: &[u16; 257],
+    high: &[u16; 257],
+    many: &[u16; 257],
+    extended: &[u64; 8],
+    wide: &[u64; 8],
+    mates: &[u16; 257],
+    lone: &[u64; 8],
+    t: usize,
+    family: Family,
+) -> Move
+    requires { ⌜ c < length (now top) ⌝ }
+    requires { ⌜ Ready (now top) (now bottom) (now first) (now last) t family ⌝ }
+    requires { ⌜ Keeps (now last) t family c (tracksIn t (now tracks)) (now tracks) (now free) (now low) (now high) (now many) (now extended) (now wide) ⌝ }
+    requires { ⌜ Mated family (now mates) (now many) (now mates) (now lone) ⌝ }
+    ensures { λ r. ⌜ r ≡ moveBy t (now (top .entry)) (now (bottom .entry)) c (tracksIn t (now (tracks .entry))) (now (mates .entry)) ⌝ }
+{
+    let k = c as u16;
+    let p = top[c];
+    let a = pins::pin_at(first, last, low, high, many, k, p);
+    let b = pins::pin_at(first, last, low, high, many, k, bottom[c]);
+    match family {
+        Family::TwoPin => three_pin::still(pair_column(
+            a,
+            b,
+            k,
+            tracks,
+            free,
+            last,
+            low,
+            high,
+            extended,
+            t,
+        )),
+        Family::ThreePin => three_column(a, b, k, tracks, free, last, low, high, extended, lone, t),
+        Family::ManyPin => {
+            let f = nets::free_tracks(free);
+            let v = nets::net_to_join(extended, wide);
+            let n = nets::joint_at(tracks, last, low, high, t, k, v);
+            three_pin::still(many_pin::choose_many(
+                t as u16 + 1,
+                a,
+                b,
+                f,
+                n,
+                pins::later_than(last, k, p),
+            ))
+        }
+    }
+}
