@@ -1,9 +1,10 @@
--- The demands are met: `Table`, `Lines` and `Drawings` relate the libraries' numbers to the lines of the table; the others hold the theorems, named
--- as in specs/.
+-- The demands are met: `Table`, `Lines` and `Drawings` relate the libraries' numbers to the lines of the table, `Families` the families of channels to
+-- their kinds in words; the others hold the theorems, named as in specs/.
 pub mod Table
 pub mod Lines
 pub mod Drawings
 pub mod Refusals
 pub mod Slices
 pub mod Solutions
+pub mod Families
 pub mod Tracks

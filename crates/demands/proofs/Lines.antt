@@ -53,7 +53,7 @@ over-none (x ∷ xs) e (zero, h, o) = omega (arith, o, ltb-false 256 x (or-false
 over-none (x ∷ xs) e (suc i, h, o) = over-none xs (or-false (ltb 256 x) (over xs) e .1) (i, omega (arith, h), o)
 
 -- one of the numbers 1 to k passes a test that does not fail for all
-count-some : (p : ℕ → Bool) (k : ℕ) → count p k ≢ 0 → (v : ℕ) × (v ≢ 0) × (p v ≡ true)
+pub count-some : (p : ℕ → Bool) (k : ℕ) → count p k ≢ 0 → (v : ℕ) × (v ≢ 0) × (p v ≡ true)
 unfolding count sum
 count-some p zero n = absurd (n refl)
 count-some p (suc k) n = go (p (suc k)) refl (count-some p k)

@@ -1,25 +1,20 @@
 -- The third demand is met, whole. Assumes nothing.
-use Prim.Native.Nat.{ℕ, suc, _≤_, min}
+use Prim.Native.Nat.{ℕ, _≤_, min}
 use mathlib.Core.Path.{_≡_, refl, sym, _∙_, ap}
-use mathlib.Core.Logic.{_≢_, _↔_, ⊎-elim}
-use mathlib.Core.Bool.{Bool}
+use mathlib.Core.Logic.{_↔_}
 use mathlib.Core.List.{List}
 use native.Mathlib.Omega.{arith}
-use lib.Dec.{ltb}
 use lib.ListN.{length}
-use Rattle.grid.specs.declared.Family.{Family}
-use Rattle.grid.specs.declared.Family.the-variants.{TwoPin, ManyPin}
-use Rattle.grid.specs.Channel.{pick, bit, count, pins, density, pinsWithin, family, tracks, rowsRefused}
+use Rattle.grid.specs.declared.Family.the-variants.{TwoPin, ThreePin, ManyPin}
+use Rattle.grid.specs.Channel.{density, tracks, rowsRefused}
 use Rattle.grid.specs.Grid.{Wiring}
 use Rattle.grid.specs.Answers as counting
-use Rattle.grid.proofs.Tests.{eq-eqb, le-ltb}
-use Rattle.grid.proofs.Counting.{sum-zero}
-use Rattle.grid.proofs.Rows.{RowsFit, rows-fit, rows-more, two-fit, two-density, many-density}
+use Rattle.grid.proofs.Rows.{RowsFit, rows-fit, rows-more, two-density, three-density, many-density}
 use Rattle.grid.proofs.Answers.{check-number, check-figures, density-figure, accepted-new, first-past}
 use Rattle.grid.proofs.Drawings.Bound.{density-le}
 use Rattle.router.specs.declared.Figures.{Figures}
 use Rattle.router.specs.Answers as routing
-use Rattle.sweep.proofs.Solved.{added-two, added-many}
+use Rattle.sweep.proofs.Solved.{added-two, added-three, added-many}
 use Rattle.router.proofs.Applied.{solved, width-least}
 use Rattle.router.proofs.Answered.{need-entries, answer-number, answer-figures, written-refused, written-drawn}
 use Rattle.record.specs.Record.{topRow, bottomRow, recordRefused}
@@ -29,25 +24,8 @@ use Rattle.demands.specs.Table.{LetsThrough, end, ofRecord, ofRows, ofLa
 use Rattle.demands.specs.Tracks.{PairsOnly, ChannelDrawn, Routes, ListsRecord, ThirdDemand}
 use Rattle.demands.proofs.Table.{zero-just-if-let}
 use Rattle.demands.proofs.Lines.{rows-first, rows-numbered, layout-numbered, record-numbered, none-numbered}
+use Rattle.demands.proofs.Families.{family-of, one-kind}
 use Rattle.demands.proofs.Refusals.{route-first, list-first}
-
--- two pins for each net, as the sweeps test it
-pairs-two : (top bottom : List ℕ) → PairsOnly top bottom → family top bottom ≡ TwoPin
-unfolding family pinsWithin count
-pairs-two top bottom p =
-    ap (λ (b : Bool). pick b TwoPin ManyPin)
-    (eq-eqb (count (λ v. ltb 2 (pins top bottom v)) 256) 0
-    (sum-zero (λ v. bit (ltb 2 (pins top bottom v))) 256 (λ v l.
-    ap bit (le-ltb 2 (pins top bottom (suc v))
-    (⊎-elim (λ (e : pins top bottom (suc v) ≡ 0). omega arith) (λ (e : pins top bottom (suc v) ≡ 2). omega arith) (p (suc v) (omega arith)))))))
-
--- a net of three pins or more, as the sweeps test it
-more-many : (top bottom : List ℕ) → RowsFit top bottom → (v : ℕ) → v ≢ 0 → 3 ≤ pins top bottom v → family top bottom ≡ ManyPin
-more-many top bottom fit v n p = go (family top bottom) refl
-  where
-    go : (f : Family) → family top bottom ≡ f → f ≡ ManyPin
-    go TwoPin e = absurd (omega (arith, two-fit top bottom fit e v (omega arith)))
-    go ManyPin e = refl
 
 -- A CHANNEL whose rows are accepted
 module _ (top bottom : List ℕ) (ok : rowsRefused top bottom 256 ≡ 0) where
@@ -65,20 +43,23 @@ module _ (top bottom : List ℕ) (ok : rowsRefused top bottom 256 ≡ 0) where
 
   -- with two-pin nets only no wiring has fewer tracks, and so no solution
   fewest-tracks : PairsOnly top bottom → (w t : ℕ) (D : List ℕ) → Wiring top bottom w t D → tracks top bottom ≤ t
-  fewest-tracks p w t D s = omega (arith, two-density top bottom (pairs-two top bottom p), density-le top bottom w t D (fit .same) s)
+  fewest-tracks p w t D s = omega (arith, two-density top bottom (family-of top bottom fit TwoPin p), density-le top bottom w t D (fit .same) s)
 
   drawn : ChannelDrawn top bottom
   unfolding routing.sliceLength
   drawn =
       record {
         solution = solved top bottom ok;
-        pairs = λ p. two-density top bottom (pairs-two top bottom p);
+        pairs = λ p. two-density top bottom (family-of top bottom fit TwoPin p);
         fewest = λ p w t D s. fewest-tracks p w t D (s .wiring);
         fewestWiring = fewest-tracks;
-        more = λ v n p. many-density top bottom (more-many top bottom fit v n p);
+        threes = λ k. three-density top bottom (family-of top bottom fit ThreePin k);
+        more = λ k. many-density top bottom (family-of top bottom fit ManyPin k);
+        one = one-kind top bottom fit;
         covers = width-least top bottom ok;
-        addedPairs = λ p. added-two top bottom fit (pairs-two top bottom p);
-        addedMore = λ v n p. added-many top bottom fit (more-many top bottom fit v n p);
+        addedPairs = λ p. added-two top bottom fit (family-of top bottom fit TwoPin p);
+        addedThrees = λ k. added-three top bottom fit (family-of top bottom fit ThreePin k);
+        addedMore = λ k. added-many top bottom fit (family-of top bottom fit ManyPin k);
         rowsDensity = λ most e.
             ap (λ s. s .density) (check-figures top bottom most ∙ accepted-new (counting.refusedWithin top bottom most) _ counting.noSize (sym (check-number top bottom most) ∙ e));
         countedDensity = density-figure top bottom ∙ accepted-new (rowsRefused top bottom 256) _ 0 ok;

@@ -3,8 +3,8 @@ use Prim.Native.Nat.{ℕ, _+_, _*_, _-_, _/_, _≤_, min}
 use mathlib.Core.Path.{_≡_}
 use mathlib.Core.Logic.{_≢_, _⊎_, _↔_}
 use mathlib.Core.List.{List, _++_}
-use lib.ListN.{length, drop}
-use Rattle.grid.specs.Channel.{pins, density, tracks}
+use lib.ListN.{length, drop, getD}
+use Rattle.grid.specs.Channel.{pins, left, density, tracks}
 use Rattle.grid.specs.Grid.{Wiring, Solution}
 use Rattle.grid.specs.Answers as counting
 use Rattle.router.specs.Answers.{width, layout}
@@ -14,9 +14,25 @@ use Rattle.listing.specs.Text.{drawingText}
 use Rattle.listing.specs.Listing as listing
 use Rattle.demands.specs.Table.{LetsThrough, end, ofRecord, ofRows, ofLayout}
 
--- each net has two pins
+-- THREE KINDS OF CHANNELS, by their nets, the numbers other than 0
+-- "each net has two pins"
 abbrev pub PairsOnly : (top bottom : List ℕ) → Type 0
 PairsOnly top bottom = (v : ℕ) → v ≢ 0 → (pins top bottom v ≡ 0) ⊎ (pins top bottom v ≡ 2)
+
+-- net v has three pins, "its first two pins in one column", column c + 1: the columns 1 to c have none of it
+abbrev pub FirstTwo : (top bottom : List ℕ) (v c : ℕ) → Type 0
+FirstTwo top bottom v c = (pins top bottom v ≡ 3) × (getD top c 0 ≡ v) × (getD bottom c 0 ≡ v) × (left top bottom c v ≡ 0)
+
+-- document 02, Job 3: "channels whose largest net has three pins, none of these nets having its first two pins in one column"
+pub record ThreesAtMost (top bottom : List ℕ) : Type 0 where
+  pub three : (v : ℕ) × (v ≢ 0) × (pins top bottom v ≡ 3)
+  pub most : (v : ℕ) → v ≢ 0 → pins top bottom v ≤ 3
+  pub apart : (v c : ℕ) → v ≢ 0 → FirstTwo top bottom v c → ⊥
+
+-- "the other channels with a net of three or more pins": a net has four or more, or one of three has its first two in one column
+pub data Others (top bottom : List ℕ) : Type 0 where
+  four : (v : ℕ) → v ≢ 0 → 4 ≤ pins top bottom v → Others top bottom
+  firstTwo : (v c : ℕ) → v ≢ 0 → FirstTwo top bottom v c → Others top bottom
 
 -- A CHANNEL whose rows the table lets through
 pub record ChannelDrawn (top bottom : List ℕ) : Type 0 where
@@ -27,12 +43,19 @@ pub record ChannelDrawn (top bottom : List ℕ) : Type 0 where
   pub fewest : PairsOnly top bottom → (w t : ℕ) (D : List ℕ) → Solution top bottom w t D → tracks top bottom ≤ t
   -- nor has one of document 01's drawings, loose ends or not
   pub fewestWiring : PairsOnly top bottom → (w t : ℕ) (D : List ℕ) → Wiring top bottom w t D → tracks top bottom ≤ t
-  -- "else 2d - 1": with a net of three or more pins
-  pub more : (v : ℕ) → v ≢ 0 → 3 ≤ pins top bottom v → tracks top bottom ≡ 2 * density top bottom - 1
-  -- n columns, and added ones: "At most d/2, rounded down", with two-pin nets only; else "at most d - 1"
+  -- where the largest net has three pins, as above: document 02, Job 3, "on 3d/2 tracks rounded down"
+  pub threes : ThreesAtMost top bottom → tracks top bottom ≡ 3 * density top bottom / 2
+  -- "else 2d - 1"; document 02, Job 3: "The limit of 2d - 1 then concerns the other channels with a net of three or more pins"
+  pub more : Others top bottom → tracks top bottom ≡ 2 * density top bottom - 1
+  -- the channel is of one of the three kinds
+  pub one : PairsOnly top bottom ⊎ (ThreesAtMost top bottom ⊎ Others top bottom)
+  -- n columns, and added ones: "At most d/2, rounded down", with two-pin nets only
   pub covers : length top ≤ width top bottom
   pub addedPairs : PairsOnly top bottom → width top bottom ≤ length top + density top bottom / 2
-  pub addedMore : (v : ℕ) → v ≢ 0 → 3 ≤ pins top bottom v → width top bottom ≤ length top + (density top bottom - 1)
+  -- where the largest net has three pins: document 02, Job 3, "At most half the tracks, rounded down, are added as columns"
+  pub addedThrees : ThreesAtMost top bottom → width top bottom ≤ length top + 3 * density top bottom / 2 / 2
+  -- with the others: "at most d - 1"
+  pub addedMore : Others top bottom → width top bottom ≤ length top + (density top bottom - 1)
   -- the densities reported are the d of the definition: the row check's and the density call's
   pub rowsDensity : (most : ℕ) → counting.numberOf (counting.rowCheck top bottom most) ≡ 0 → counting.sizeOf (counting.rowCheck top bottom most) .density ≡ density top bottom
   pub countedDensity : counting.countDensity (counting.densityCount top bottom) ≡ density top bottom
