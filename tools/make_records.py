@@ -14,6 +14,7 @@ import random
 import sys
 
 from second_router import LARGEST, LISTED, listing, write_record
+from three_pin_channels import channels as three_pin_channels
 
 COUNT = 240  # records drawn by lot, beside the others
 
@@ -59,6 +60,27 @@ def many_pins(chance, n, fill, nets):
     return split(terminals)
 
 
+def small_nets(chance, n, fill, share):
+    """A channel of nets of two pins and, about a share of them, three, with about a share of its terminals in use."""
+    terminals, used = [], int(2 * n * fill)
+    for number in chance.sample(range(1, LARGEST + 1), used // 2):
+        pins = 3 if chance.random() < share else 2
+        if len(terminals) + pins <= used:
+            terminals += [number] * pins
+    terminals += [0] * (2 * n - len(terminals))
+    chance.shuffle(terminals)
+    return split(terminals)
+
+
+def thirds(chance, n):
+    """Every net starts in the left third, continues in the middle one and ends in the right one: as dense as n columns with nets of three pins can be."""
+    left = chance.sample(range(1, LARGEST + 1), 2 * (n // 3))
+    middle, right = left[:], left[:]
+    chance.shuffle(middle)
+    chance.shuffle(right)
+    return split(left + [0] * (2 * (n % 3)) + middle + right)
+
+
 def crossing(chance, n):
     """Every net starts in the left half and ends in the right half: as dense as n columns can be."""
     left = chance.sample(range(1, LARGEST + 1), 2 * (n // 2))
@@ -67,14 +89,14 @@ def crossing(chance, n):
     return split(left + [0] * (2 * (n % 2)) + right)
 
 
-def dense_many(chance, n):
-    """As dense as n columns can be, with one net of more than two pins."""
+def dense_many(chance, n, pins):
+    """As dense as n columns can be, with one net of three or four pins."""
     top, bottom = crossing(chance, n)
     if n > 2:
-        place = chance.randrange(n // 2, n)
-        if n % 2:
-            place = n // 2
+        place = n // 2 if n % 2 else chance.randrange(n // 2, n)
         top[place] = top[0]
+        if pins > 3:
+            bottom[place] = top[0]
         counts = {number: (top + bottom).count(number) for number in top + bottom}
         top = [number if counts[number] > 1 else 0 for number in top]
         bottom = [number if counts[number] > 1 else 0 for number in bottom]
@@ -83,7 +105,7 @@ def dense_many(chance, n):
 
 def channel(chance, n):
     """Some channel of n columns."""
-    kind = chance.randrange(6)
+    kind = chance.randrange(9)
     if kind == 0:
         return two_pins(chance, n, chance.random())
     if kind == 1:
@@ -93,14 +115,23 @@ def channel(chance, n):
     if kind == 3:
         return many_pins(chance, n, 1, chance.randrange(1, n + 2))
     if kind == 4:
+        return many_pins(chance, n, 1, chance.randrange(1, n // 2 + 2))
+    if kind == 5:
         return crossing(chance, n)
-    return dense_many(chance, n)
+    if kind == 6:
+        return dense_many(chance, n, chance.choice((3, 4)))
+    if kind == 7:
+        return small_nets(chance, n, chance.choice((chance.random(), 1)), chance.random())
+    return thirds(chance, n)
 
 
 def sparse(chance, n):
     """A channel with few pins, so that its listing is short."""
-    if chance.randrange(2):
+    kind = chance.randrange(3)
+    if kind == 0:
         return two_pins(chance, n, 0.2 * chance.random())
+    if kind == 1:
+        return small_nets(chance, n, 0.2 * chance.random(), 0.7)
     return many_pins(chance, n, 0.3 * chance.random(), chance.randrange(1, 6))
 
 
@@ -143,11 +174,13 @@ def damaged(chance):
 
 
 def records(count):
-    """The cases of the paper, every n from 0 to 64, then as many others as asked for."""
+    """The cases of the paper, every n from 0 to 64, the densest, those of the third sweep, then as many others as asked for."""
     chance = random.Random(count)
     made = [write_record(top, bottom) for top, bottom in CASES]
     made += [write_record(*(channel if n < 24 else sparse)(chance, n)) for n in range(LISTED + 1)]
-    made += [write_record(*crossing(chance, LISTED)), write_record(*dense_many(chance, LISTED))]
+    made += [write_record(*crossing(chance, LISTED)), write_record(*thirds(chance, LISTED))]
+    made += [write_record(*dense_many(chance, LISTED, pins)) for pins in (3, 4)]
+    made += [write_record(top, bottom) for top, bottom in three_pin_channels()]
     for _ in range(count):
         kind = chance.randrange(4)
         if kind < 2:

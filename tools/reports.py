@@ -12,9 +12,10 @@ import pathlib
 import random
 
 from checks import measures, packed
+from second_channel import LARGEST, refusal
 from second_report import NO_RECORD, report
 from second_router import blocks, report_case, same_report
-from second_sweep import LARGEST, refusal, route
+from second_sweep import route
 
 ROOT = pathlib.Path(__file__).resolve().parent.parent
 WORKED = ROOT / 'tools' / 'cases' / 'job2-reports.txt'

@@ -3,7 +3,7 @@
 A grid point is (column, row), columns counted from 1. The edges of each net are kept as a map from its grid points to their neighbours.
 """
 
-from second_sweep import pin_counts, refusal
+from second_channel import pin_counts, refusal
 
 WIDEST = 511  # width and tracks of a drawing that is checked
 

@@ -4,8 +4,8 @@ A table is a list of records, each of first column, last column, pin count and l
 are when counted at each of its grid points.
 """
 
+from second_channel import LARGEST, pin_counts, refusal, span
 from second_checker import check, wires
-from second_sweep import LARGEST, pin_counts, refusal, span
 
 NO_RECORD = (0, 0, 0, 0)  # of an unused number
 

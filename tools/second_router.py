@@ -1,7 +1,7 @@
 #!/usr/bin/env python3
 """A second router, checker and net report for knock-knee channels.
 
-Written from documents 01 and 02 alone, so that its answers can be laid beside those of the proved one.
+Written from documents 01 and 02 alone, the third sweep with the choices of docs/THREE-PIN.md, so that its answers can be laid beside those of the proved one.
 It keeps the tracks of each net as a set, draws wires row by row, and finds pieces by a search over grid points.
 
     second_router.py list  < record      the listing of one record
@@ -11,9 +11,10 @@ It keeps the tracks of each net as a set, draws wires row by row, and finds piec
 
 import sys
 
+from second_channel import LARGEST, refusal
 from second_checker import check
 from second_report import NO_RECORD, report
-from second_sweep import LARGEST, refusal, route
+from second_sweep import route
 
 LISTED = 64  # columns of a channel that is listed
 
@@ -80,10 +81,23 @@ def figures(line):
     return tuple(int(word) for word in line.split(" ")[1::2])
 
 
+def weighed(layout):
+    """The sum over the entries of (position + 1) times entry, modulo 2 to the 32nd."""
+    return sum(place * entry for place, entry in enumerate(layout, 1)) % 2**32
+
+
 def same_route(part):
-    top, bottom, layout = row(part[0]), row(part[1]), row(part[3])
+    """Whether the router gives a worked case's answer: a refusal, or figures and a drawing, by its entries or, where it is large, by their sum alone."""
+    lines = {line.split(" ")[0]: line for line in part}
+    top, bottom = row(lines["top"]), row(lines["bottom"])
+    number = refusal(top, bottom)
+    if number or "refused" in lines:
+        return part[2:] == ["refused %d" % number]
     d, t, w, drawn = route(top, bottom)
-    return (d, t, w) == figures(part[2]) and drawn == layout and check(top, bottom, w, t, drawn) == (0, 0, 0, 0)
+    same = [(d, t, w) == figures(lines["density"]), check(top, bottom, w, t, drawn) == (0, 0, 0, 0)]
+    same += [weighed(drawn) == row(lines["sum"])[0]] if "sum" in lines else []
+    same += [drawn == row(lines["layout"])] if "layout" in lines else []
+    return len(same) > 2 and all(same)
 
 
 def same_listing(part):

@@ -1,157 +1,14 @@
-"""The channel and the sweep of the second router, from the scope paper alone."""
+"""The sweeps of the second router, from documents 01 and 02 alone: two-pin and many-pin channels here, the third one in second_three_pin.py."""
 
-LARGEST = 256  # columns of a channel, and net numbers
-
-
-# Channel
-
-
-def refusal(top, bottom, limit=LARGEST):
-    """The number of the first row of the table, 4 to 7, that applies to the rows; 0 if none does."""
-    if len(top) != len(bottom):
-        return 4
-    if len(top) > limit:
-        return 5
-    if any(number > LARGEST for number in top + bottom):
-        return 6
-    if any(count == 1 for count in pin_counts(top, bottom).values()):
-        return 7
-    return 0
-
-
-def pin_counts(top, bottom):
-    """The pins of each net."""
-    counts = {}
-    for number in top + bottom:
-        if number:
-            counts[number] = counts.get(number, 0) + 1
-    return counts
-
-
-def span(top, bottom):
-    """First and last column of each net."""
-    ends = {}
-    for column, pair in enumerate(zip(top, bottom), 1):
-        for number in pair:
-            if number:
-                ends[number] = (ends.get(number, (column, 0))[0], column)
-    return ends
-
-
-def density(top, bottom):
-    """The largest count, over the gaps, of nets with pins on both sides."""
-    ends = span(top, bottom).values()
-    return max((sum(first <= gap < last for first, last in ends) for gap in range(1, len(top))), default=0)
-
-
-def many_pins(top, bottom):
-    """Whether a net has three or more pins."""
-    return any(count > 2 for count in pin_counts(top, bottom).values())
-
-
-def tracks(top, bottom):
-    """The tracks of the sweep's drawing."""
-    d = density(top, bottom)
-    return 2 * d - 1 if many_pins(top, bottom) else d
-
-
-# Sweep
-
-
-class Column:
-    """One column of the sweep: the tracks in the gap left of it, the wires it draws, the tracks right of it."""
-
-    def __init__(self, strands, t):
-        self.left = {net: sorted(own) for net, own in strands.items() if own}
-        self.right = {net: set(own) for net, own in self.left.items()}
-        self.up = [0] * (t + 1)
-        self.t = t
-        self.top_row = t + 1
-
-    def free(self):
-        """Free tracks of the left gap, from the lowest."""
-        taken = {track for own in self.left.values() for track in own}
-        return [track for track in range(1, self.t + 1) if track not in taken]
-
-    def wire(self, net, low, high):
-        """A vertical of a net between two rows."""
-        for row in range(low, high):
-            if self.up[row] not in (0, net):
-                raise AssertionError("two nets on one vertical edge")
-            self.up[row] = net
-
-    def from_top(self, net, row):
-        """The top pin's wire down to a row."""
-        self.wire(net, row, self.top_row)
-
-    def from_bottom(self, net, row):
-        """The bottom pin's wire up to a row."""
-        self.wire(net, 0, row)
-
-    def leaves_on(self, net, own):
-        """The tracks a net has right of the column."""
-        self.right[net] = set(own)
-
-    def adds(self, net, track):
-        """One more track for a net right of the column."""
-        self.right.setdefault(net, set()).add(track)
-
-    def entries(self):
-        """The column's 2t + 1 entries."""
-        across = [0] * self.t
-        for net, own in self.right.items():
-            for track in own:
-                if across[track - 1]:
-                    raise AssertionError("two nets on one track")
-                across[track - 1] = net
-        return self.up + across
-
-
-class Pins:
-    """The pins of one column with their kinds."""
-
-    def __init__(self, top, bottom, column, ends):
-        self.top, self.bottom = top[column - 1], bottom[column - 1]
-        self.column, self.ends = column, ends
-
-    def starts(self, net):
-        return bool(net) and self.ends[net][0] == self.column
-
-    def ends_here(self, net):
-        return bool(net) and self.ends[net][1] == self.column
-
-    def follow(self, net):
-        return self.ends[net][1] > self.column
-
-    def open(self, net):
-        return self.ends[net][0] < self.column <= self.ends[net][1]
-
-    def stretched(self, net):
-        return self.ends[net][1] < self.column
-
-
-def stretched_net(place, pins):
-    """The lowest-numbered stretched net, or 0."""
-    return min((net for net in place.left if pins.stretched(net)), default=0)
-
-
-def new_tracks(place, pins):
-    """Starting pins on the lowest free tracks, the higher one for the top pin."""
-    chosen = iter(place.free())
-    if pins.bottom:
-        track = next(chosen)
-        place.from_bottom(pins.bottom, track)
-        place.adds(pins.bottom, track)
-    if pins.top:
-        track = next(chosen)
-        place.from_top(pins.top, track)
-        place.adds(pins.top, track)
+from second_channel import MANY_PIN, THREE_PIN, TWO_PIN, density, family, span, tracks
+from second_column import Column, Pins, both_end, bottom_adds, bottom_ends, can_both_end, close_net, go_direct, new_tracks, stretched_net, top_adds, top_ends
+from second_three_pin import ThreePinSweep
 
 
 def two_pin_column(place, pins):
     """One column of a channel whose nets have two pins each."""
     top, bottom = pins.top, pins.bottom
-    here = [net for net in (top, bottom) if net]
+    here = pins.here()
     if not here:
         return
     if top == bottom:
@@ -167,18 +24,10 @@ def two_pin_column(place, pins):
 def start_pair(place, pins):
     """Rule 2: only starting pins, on the tracks of a stretched net or on free ones."""
     net = stretched_net(place, pins)
-    if not net:
+    if net:
+        close_net(place, pins, net)
+    else:
         new_tracks(place, pins)
-        return
-    a, b = place.left[net]
-    place.wire(net, a, b)
-    place.leaves_on(net, ())
-    if pins.top:
-        place.from_top(pins.top, b)
-        place.adds(pins.top, b)
-    if pins.bottom:
-        place.from_bottom(pins.bottom, a)
-        place.adds(pins.bottom, a)
 
 
 def end_one(place, pins, here):
@@ -209,7 +58,7 @@ def end_pair(place, top, bottom):
 
 
 def many_pin_column(place, pins):
-    """One column of a channel in which some net has three or more pins."""
+    """One column of another channel with a net of three or more pins."""
     top, bottom = pins.top, pins.bottom
     if not top and not bottom:
         return
@@ -255,73 +104,30 @@ def reduce_net(place, pins):
 
 def end_net(place, pins):
     """Rule 3: a net ends and leaves a track to the pin opposite."""
-    top, bottom = pins.top, pins.bottom
-    if pins.ends_here(top) and pins.ends_here(bottom) and place.left[bottom][-1] < place.left[top][0]:
-        place.from_top(top, place.left[top][0])
-        place.from_bottom(bottom, place.left[bottom][-1])
-        place.leaves_on(top, ())
-        place.leaves_on(bottom, ())
-    elif pins.ends_here(top):
-        low = place.left[top][0]
-        place.from_top(top, low)
-        place.leaves_on(top, ())
-        if bottom:
-            place.from_bottom(bottom, low)
-            place.adds(bottom, low)
+    if can_both_end(place, pins):
+        both_end(place, pins)
+    elif pins.ends_here(pins.top):
+        top_ends(place, pins)
     else:
-        high = place.left[bottom][-1]
-        place.from_bottom(bottom, high)
-        place.leaves_on(bottom, ())
-        if top:
-            place.from_top(top, high)
-            place.adds(top, high)
+        bottom_ends(place, pins)
 
 
 def start_net(place, pins):
     """Rule 4: a net starts, alone, beside another or beside one that continues."""
-    top, bottom = pins.top, pins.bottom
-    if not top or not bottom or (pins.starts(top) and pins.starts(bottom)):
+    if all(map(pins.starts, pins.here())):
         new_tracks(place, pins)
-        return
-    free = place.free()[0]
-    if pins.starts(bottom):
-        m = place.left[top][-1]
-        place.from_top(top, m)
-        if free < m:
-            place.from_bottom(bottom, free)
-            place.adds(bottom, free)
-        else:
-            place.right[top].remove(m)
-            place.adds(top, free)
-            place.from_bottom(bottom, m)
-            place.adds(bottom, m)
+    elif pins.starts(pins.bottom):
+        bottom_adds(place, pins)
     else:
-        low = place.left[bottom][0]
-        place.from_bottom(bottom, low)
-        if free > low:
-            place.from_top(top, free)
-            place.adds(top, free)
-        else:
-            place.right[bottom].remove(low)
-            place.adds(bottom, free)
-            place.from_top(top, low)
-            place.adds(top, low)
+        top_adds(place, pins)
 
 
 def continue_nets(place, pins):
     """Rule 5: nothing starts or ends."""
     top, bottom = pins.top, pins.bottom
-    if not bottom:
-        place.from_top(top, place.left[top][-1])
-        return
-    if not top:
-        place.from_bottom(bottom, place.left[bottom][0])
-        return
-    above, below = place.left[top], place.left[bottom]
-    m, low = above[-1], below[0]
-    if low < m:
-        place.from_top(top, m)
-        place.from_bottom(bottom, low)
+    above, below = place.left.get(top), place.left.get(bottom)
+    if not top or not bottom or below[0] < above[-1]:
+        go_direct(place, pins)
     elif len(above) == 2:
         place.from_top(top, above[0])
         place.leaves_on(top, above[1:])
@@ -333,21 +139,13 @@ def continue_nets(place, pins):
         place.from_top(top, below[1])
         place.adds(top, below[1])
     else:
-        free = place.free()[0]
-        place.from_top(top, m)
-        if free < m:
-            place.from_bottom(bottom, free)
-            place.adds(bottom, free)
-        else:
-            place.leaves_on(top, (free,))
-            place.from_bottom(bottom, m)
-            place.adds(bottom, m)
+        bottom_adds(place, pins)
 
 
 def route(top, bottom):
     """Density, tracks, width and entries of the sweep's drawing of a channel that is not refused."""
     t, ends = tracks(top, bottom), span(top, bottom)
-    draw = many_pin_column if many_pins(top, bottom) else two_pin_column
+    draw = {TWO_PIN: two_pin_column, THREE_PIN: ThreePinSweep().column, MANY_PIN: many_pin_column}[family(top, bottom)]
     strands, layout, width = {}, [], 0
     while width < len(top) or any(strands.values()):
         width += 1

@@ -2,6 +2,7 @@
 """Tests of the tools: python3 tools/test_tools.py"""
 
 import pathlib
+import re
 import unittest
 from xml.dom import minidom
 
@@ -13,9 +14,14 @@ import make_records
 import reports
 import second_report
 import second_router
+import three_pin_channels
+from second_channel import MANY_PIN, THREE_PIN, TWO_PIN, family, refusal
+from second_checker import check
+from second_sweep import route
 
 HERE = pathlib.Path(__file__).resolve().parent
 CRATES = HERE.parent / "crates"
+DOCS = HERE.parent / "docs"
 
 CASE_D = bytes.fromhex("0C 00 01 00 02 00 01 00 02 00 02 00 01 00")
 LISTING_D = "density 2 tracks 2 width 3\n1: 2 0 1 | 2 1\n2: 1 2 2 | 1 1\n3: 0 1 0 | 0 0\n"
@@ -89,6 +95,53 @@ class Stored(unittest.TestCase):
         self.assertEqual({path.parent.name for path in CRATES.glob("*/stdout")}, {"knee", "listing_cases", "report_cases", "check_cases"})
 
 
+class Routes(unittest.TestCase):
+    """The second router, on the worked cases of job3-routes.txt and job3-listings.txt and on channels of the third sweep."""
+
+    def parts(self, name):
+        return second_router.blocks(HERE / "cases" / name)
+
+    def test_worked_routes(self):
+        parts = self.parts("job3-routes.txt")
+        self.assertEqual([part for part in parts if not second_router.same_route(part)], [])
+        drawn = [(second_router.row(part[0]), second_router.row(part[1])) for part in parts if not part[2].startswith("refused")]
+        counts = [sum(family(*rows) == one for rows in drawn) for one in (TWO_PIN, THREE_PIN, MANY_PIN)]
+        self.assertEqual((counts, len(parts) - len(drawn)), ([760, 341, 146], 26))
+
+    def test_worked_listings(self):
+        parts = self.parts("job3-listings.txt")
+        self.assertEqual([part for part in parts if not second_router.same_listing(part)], [])
+        self.assertEqual((len(parts), sum(part[1].startswith("refused") for part in parts)), (450, 49))
+
+    def test_another_answer_differs(self):
+        drawn = ["top 1 2 1", "bottom 2 1 2", "density 2 tracks 3 width 4", "sum 401", "layout 2 0 1 1 2 1 0 1 2 2 2 1 1 2 2 1 1 1 2 0 2 0 2 2 0 0 0 0"]
+        refused = ["top 1", "bottom 0", "refused 7"]
+        self.assertTrue(second_router.same_route(drawn) and second_router.same_route(drawn[:4]) and second_router.same_route(refused))
+        for place, line in [(2, "density 3 tracks 3 width 4"), (2, "density 2 tracks 2 width 4"), (2, "density 2 tracks 3 width 3"), (3, "sum 400")]:
+            self.assertFalse(second_router.same_route(drawn[:place] + [line] + drawn[place + 1 :]))
+        for other in (drawn[:4] + [drawn[4][:-1] + "1"], drawn[:3], drawn[:2] + ["refused 7"], refused[:2] + ["refused 6"], refused[:2] + drawn[2:]):
+            self.assertFalse(second_router.same_route(other))
+
+    def test_families(self):
+        families = [family(*rows) for rows in three_pin_channels.channels()]
+        self.assertEqual(families, [THREE_PIN] * 65 + [MANY_PIN] * 2 + [THREE_PIN] + [MANY_PIN])
+        self.assertEqual(family([], []), TWO_PIN)
+        self.assertEqual([family(top, bottom) for top, bottom in make_records.CASES[5:8]], [THREE_PIN] * 3)
+
+    def test_third_sweep_draws_solutions(self):
+        for top, bottom in three_pin_channels.channels():
+            d, t, w, layout = route(top, bottom)
+            self.assertEqual((refusal(top, bottom), check(top, bottom, w, t, layout)), (0, (0, 0, 0, 0)))
+            self.assertEqual(t, 3 * d // 2 if family(top, bottom) == THREE_PIN else 2 * d - 1)
+            self.assertLessEqual(w, len(top) + t // 2)
+
+    def test_examples_of_the_rules(self):
+        shown = re.findall("```\\n(top.*?\\n)\\n(density.*?)```", (DOCS / "THREE-PIN.md").read_text(), re.DOTALL)
+        self.assertEqual(len(shown), 3)
+        for rows, text in shown:
+            self.assertEqual(second_router.listing(channel.record_of_rows(*channel.rows_of_text(rows))), text)
+
+
 class Reports(unittest.TestCase):
     def test_case_d(self):
         table = [(9, 9, 9, 9)] * 257
@@ -119,6 +172,12 @@ class Draw(unittest.TestCase):
     def test_ring(self):
         ring = [((1, 1), (2, 1)), ((2, 1), (2, 2)), ((1, 2), (2, 2)), ((1, 1), (1, 2))]
         self.assertEqual([len(chain) for chain in draw.chains(ring)], [5])
+
+    def test_pictures_of_the_docs(self):
+        for name in ("example", "example-three", "example-many"):
+            record = channel.record_of_rows(*channel.rows_of_text((DOCS / f"{name}.txt").read_text()))
+            picture = draw.Picture(listing.read(second_router.listing(record))).svg()
+            self.assertEqual((DOCS / f"{name}.svg").read_text(), picture)
 
     def test_pictures_are_xml(self):
         for text in [LISTING_D, "density 0 tracks 0 width 0\n", "density 0 tracks 0 width 1\n1: 5 |\n"]:
