@@ -6,6 +6,7 @@ pub mod list;
 pub mod report;
 pub mod route;
 pub mod rows;
+mod set;
 
 pub use check::{check, column, Checked};
 pub use list::list;

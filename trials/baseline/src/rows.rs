@@ -1,4 +1,4 @@
-//! Row check and density.
+//! Row check, family and density.
 
 /// First column, last column and pins of a net.
 #[derive(Clone, Copy, Default)]
@@ -38,6 +38,31 @@ pub fn nets(top: &[u16], bottom: &[u16], most: usize) -> Result<Nets, u16> {
         return Err(7);
     }
     Ok(nets)
+}
+
+/// The families of channels, by the sweep that draws them.
+#[derive(Clone, Copy, PartialEq, Eq)]
+pub enum Family {
+    TwoPin,
+    ThreePin,
+    ManyPin,
+}
+
+/// The family of a channel. The columns are looked through only where the largest
+/// net has three pins.
+pub fn family(top: &[u16], bottom: &[u16], nets: &Nets) -> Family {
+    let over = |most| nets.iter().any(|net| net.pins > most);
+    let together = |(column, (&p, &q)): (u16, (&u16, &u16))| {
+        let net = &nets[p as usize];
+        p == q && net.pins == 3 && net.first == column
+    };
+    if !over(2) {
+        Family::TwoPin
+    } else if over(3) || (1..).zip(top.iter().zip(bottom)).any(together) {
+        Family::ManyPin
+    } else {
+        Family::ThreePin
+    }
 }
 
 /// The largest number of nets that cross a gap.

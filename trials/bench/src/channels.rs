@@ -30,8 +30,25 @@ fn rows(state: &mut u64, n: usize, most: usize) -> (Vec<u16>, Vec<u16>) {
     for i in (1..nets.len()).rev() {
         nets.swap(i, under(state, i + 1));
     }
+    if most == 3 {
+        part_first_pins(&mut nets, n);
+    }
     let bottom = nets.split_off(n);
     (nets, bottom)
+}
+
+/// Parts the first two pins of each net of three that has them in one column: one
+/// goes to the column of the third. The top row comes first, then the bottom row.
+fn part_first_pins(nets: &mut [u16], n: usize) {
+    for c in 0..n {
+        if nets[c] != nets[c + n] {
+            continue;
+        }
+        let third = (c + 1..n).flat_map(|k| [k, k + n]).find(|&i| nets[i] == nets[c]);
+        if let Some(third) = third {
+            nets.swap(c, (third + n) % (2 * n));
+        }
+    }
 }
 
 /// Some channels, the same in every run.

@@ -162,7 +162,7 @@ fn main() {
         [("density", density), ("route", route), ("check", check), ("report", report)];
     for (call, measure) in calls {
         for n in [16, 64, 256] {
-            for (pins, most) in [("2", 2), ("2 to 5", 5)] {
+            for (pins, most) in [("2", 2), ("2 or 3", 3), ("2 to 5", 5)] {
                 let times = measure(&cases(n, most, GROUPS * columns / n), repetitions);
                 let (library, rust) = (times[0], times[1]);
                 let fill = times.get(2).map_or(["–".into(), "–".into()], |fill| {

@@ -12,6 +12,8 @@ pub struct Tally {
     pub calls: u64,
     /// How often each number was the answer, 0 to 17.
     pub numbers: [u64; 18],
+    /// How many channels each sweep draws: two-pin, three-pin, many-pin.
+    pub sweeps: [u64; 3],
     pub differences: u64,
     /// The first differences, in words.
     pub shown: Vec<String>,
@@ -29,6 +31,7 @@ impl Tally {
             channels: 0,
             calls: 0,
             numbers: [0; 18],
+            sweeps: [0; 3],
             differences: 0,
             shown: Vec::new(),
             text: vec![MARK; TEXT].into_boxed_slice().try_into().unwrap(),
@@ -42,6 +45,7 @@ impl Tally {
         self.differences += other.differences;
         self.shown.extend(other.shown);
         self.numbers.iter_mut().zip(other.numbers).for_each(|(a, b)| *a += b);
+        self.sweeps.iter_mut().zip(other.sweeps).for_each(|(a, b)| *a += b);
     }
 
     /// Compares two answers; `number` is the second router's.
@@ -74,6 +78,9 @@ impl Tally {
             damage::rows(rng, &mut c);
         }
         self.channels += 1;
+        if let Ok(nets) = second::rows::nets(&c.top, &c.bottom, second::MOST_COLUMNS) {
+            self.sweeps[nets.family() as usize] += 1;
+        }
         self.counts(&c);
         self.routes(rng, &c);
         self.reports(rng, &c);

@@ -59,7 +59,7 @@ fn entry(rng: &mut Rng, channel: &Channel) -> u16 {
     let all: Vec<u16> = channel.top.iter().chain(&channel.bottom).copied().collect();
     match rng.under(20) {
         0 => rng.from(1, 256) as u16,
-        1 => rng.pick(&[257, 258, 511, 512, 32768, 65535]),
+        1 => rng.pick(&[256, 257, 258, 511, 512, 32768, 65535]),
         2..9 => 0,
         _ if all.is_empty() => 0,
         _ => rng.pick(&all),

@@ -47,6 +47,8 @@ fn main() -> ExitCode {
     let answers: Vec<String> =
         all.numbers.iter().enumerate().map(|(n, count)| format!("{n}: {count}")).collect();
     println!("answers by number: {}", answers.join(", "));
+    let [two, three, many] = all.sweeps;
+    println!("channels by sweep: two-pin {two}, three-pin {three}, many-pin {many}");
     let untried = all.numbers.iter().filter(|&&count| count == 0).count();
     println!(
         "seed {seed}: {} channels, {} answers compared, {} differences, {:.0} s",

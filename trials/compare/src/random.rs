@@ -87,11 +87,11 @@ fn numbers(rng: &mut Rng, most: usize) -> Vec<u16> {
     numbers
 }
 
-/// A channel that is not refused, of one of seven families.
+/// A channel that is not refused, of one of eight families.
 pub fn any(rng: &mut Rng) -> Channel {
     let n = columns(rng);
     let mut slots = vec![0; 2 * n];
-    match rng.under(7) {
+    match rng.under(9) {
         0 => spread(rng, &mut slots, 2, 2, 100),
         1 => {
             let most = rng.from(3, 8);
@@ -103,8 +103,12 @@ pub fn any(rng: &mut Rng) -> Channel {
             let share = rng.from(5, 60);
             spread(rng, &mut slots, 2, most, share)
         }
-        4 => local(rng, &mut slots),
+        4 => {
+            let most = rng.pick(&[2, 2, 3, 5]);
+            local(rng, &mut slots, most)
+        }
         5 => few(rng, &mut slots),
+        6 | 7 => threes(rng, &mut slots),
         _ => pairs(rng, &mut slots),
     }
     mend(rng, &mut slots);
@@ -141,9 +145,8 @@ fn halves(rng: &mut Rng, slots: &mut [u16]) {
 }
 
 /// Nets whose pins lie close together.
-fn local(rng: &mut Rng, slots: &mut [u16]) {
+fn local(rng: &mut Rng, slots: &mut [u16], most: usize) {
     let reach = rng.from(2, 12);
-    let most = rng.pick(&[2, 2, 3, 5]);
     for net in numbers(rng, slots.len()) {
         let Some(from) = slots.len().checked_sub(reach) else { return };
         let from = rng.from(0, from);
@@ -154,6 +157,87 @@ fn local(rng: &mut Rng, slots: &mut [u16]) {
             places[..pins].iter().for_each(|&place| slots[place] = net);
         }
     }
+}
+
+/// Nets of two or three pins, dense, sparse, local or in stages. The last two pins
+/// of a net of three often share a column; the first two now and then, which is
+/// left to the sweep of other channels.
+fn threes(rng: &mut Rng, slots: &mut [u16]) {
+    let least = rng.from(2, 3);
+    match rng.under(5) {
+        0 => spread(rng, slots, least, 3, 100),
+        1 => {
+            let share = rng.from(20, 80);
+            spread(rng, slots, least, 3, share)
+        }
+        2 => local(rng, slots, 3),
+        _ => stages(rng, slots),
+    }
+    let often = rng.pick(&[0, 10, 50]);
+    bring_together(slots, |_| rng.percent(often));
+    if !rng.percent(8) {
+        bring_together(slots, |early| early);
+    }
+}
+
+/// Brings the last two pins of some nets of three together in one column: of those
+/// that are chosen by whether the first two share one.
+fn bring_together(slots: &mut [u16], mut chosen: impl FnMut(bool) -> bool) {
+    for net in 1..=256 {
+        let places: Vec<usize> = (0..slots.len()).filter(|&i| slots[i] == net).collect();
+        if let [first, second, third] = places[..] {
+            if chosen(first ^ 1 == second) {
+                slots.swap(second, third ^ 1);
+            }
+        }
+    }
+}
+
+/// What a place holds.
+#[derive(Clone, Copy)]
+enum Pin {
+    Starts,
+    GoesOn,
+    Ends,
+    Absent,
+}
+
+/// Nets of two or three pins, pin by pin from the left: now pins mostly start, now
+/// they go on or end.
+fn stages(rng: &mut Rng, slots: &mut [u16]) {
+    use Pin::*;
+    let moods = [
+        [Starts, Starts, Starts, GoesOn],
+        [GoesOn, GoesOn, Ends, Ends],
+        [Starts, GoesOn, Ends, Absent],
+    ];
+    let mut mood = moods[0];
+    let mut fresh = numbers(rng, slots.len() / 2);
+    let (mut once, mut twice) = (Vec::new(), Vec::new());
+    for place in 0..slots.len() {
+        if rng.percent(20) {
+            mood = rng.pick(&moods);
+        }
+        // The places that are not needed to end the nets.
+        let spare = slots.len() - place - once.len() - twice.len();
+        let two = twice.is_empty() || !once.is_empty() && rng.percent(30);
+        let net = match if spare == 0 { Ends } else { rng.pick(&mood) } {
+            Starts if spare > 1 => fresh.pop().inspect(|&net| once.push(net)),
+            GoesOn => take(rng, &mut once).inspect(|&net| twice.push(net)),
+            Ends => take(rng, if two { &mut once } else { &mut twice }),
+            _ => None,
+        };
+        slots[place] = net.unwrap_or(0);
+    }
+}
+
+/// Takes one out of a list, often the first.
+fn take(rng: &mut Rng, list: &mut Vec<u16>) -> Option<u16> {
+    if list.is_empty() {
+        return None;
+    }
+    let chosen = if rng.percent(60) { 0 } else { rng.under(list.len()) };
+    Some(list.remove(chosen))
 }
 
 /// A few nets with very many pins.

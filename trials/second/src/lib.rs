@@ -1,9 +1,10 @@
 //! A second knock-knee channel router, checker and net report.
 //!
-//! It was written from documents 01 and 02 alone and shares no code with the
-//! library. It keeps to their words and does everything in the plainest
-//! way: the state of a sweep is the list of nets on the tracks, and every
-//! question about it is answered by looking through that list.
+//! It follows documents 01 and 02, and for nets of two or three pins the choices
+//! in docs/THREE-PIN.md, and shares no code with the library. It keeps to their
+//! words and does everything in the plainest way: the state of a sweep is the list
+//! of nets on the tracks, for nets of two or three pins with a list of pairs, and
+//! every question about it is answered by looking through these lists.
 
 pub mod check;
 pub mod record;

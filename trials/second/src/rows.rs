@@ -1,7 +1,19 @@
-//! What the rows alone settle: refusals 4 to 7, density, tracks, and the slice
-//! length that a layout needs.
+//! What the rows alone settle: refusals 4 to 7, family, density, tracks, and the
+//! slice length that a layout needs.
 
 use crate::{MOST_COLUMNS, MOST_NETS};
+
+/// The families of channels; each has its own sweep and its own tracks.
+#[derive(Clone, Copy, Debug, PartialEq, Eq)]
+pub enum Family {
+    /// Each net has two pins.
+    TwoPin,
+    /// The largest net has three pins, and no net of three its first two in one
+    /// column.
+    ThreePin,
+    /// All others.
+    ManyPin,
+}
 
 /// Where the pins of each net lie.
 #[derive(Debug)]
@@ -44,9 +56,15 @@ impl Nets {
         (1..=MOST_NETS as u16).filter(|&net| self.pins(net) > 0)
     }
 
-    /// Whether some net has three or more pins.
-    pub fn many(&self) -> bool {
-        self.numbers().any(|net| self.pins(net) > 2)
+    /// The channel's family.
+    pub fn family(&self) -> Family {
+        let largest = self.numbers().map(|net| self.pins(net)).max().unwrap_or(0);
+        let together = |pins: &Vec<usize>| pins.len() == 3 && pins[0] == pins[1];
+        match largest {
+            0..=2 => Family::TwoPin,
+            3 if !self.columns.iter().any(together) => Family::ThreePin,
+            _ => Family::ManyPin,
+        }
     }
 }
 
@@ -78,11 +96,11 @@ pub fn density_of(nets: &Nets, n: usize) -> usize {
 }
 
 /// The tracks of a channel of density d.
-pub fn tracks_of(nets: &Nets, d: usize) -> usize {
-    if nets.many() {
-        2 * d - 1
-    } else {
-        d
+pub fn tracks_of(family: Family, d: usize) -> usize {
+    match family {
+        Family::TwoPin => d,
+        Family::ThreePin => 3 * d / 2,
+        Family::ManyPin => 2 * d - 1,
     }
 }
 
@@ -101,5 +119,5 @@ pub fn density(top: &[u16], bottom: &[u16]) -> Result<usize, u16> {
 pub fn need(top: &[u16], bottom: &[u16]) -> Result<usize, u16> {
     let nets = nets(top, bottom, MOST_COLUMNS)?;
     let d = density_of(&nets, top.len());
-    Ok(room(top.len(), tracks_of(&nets, d)))
+    Ok(room(top.len(), tracks_of(nets.family(), d)))
 }

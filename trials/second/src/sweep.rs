@@ -1,6 +1,11 @@
-//! The two left-to-right sweeps.
+//! The left-to-right sweeps: what their rules share. The rules of each are in a
+//! file of their own.
 
-use crate::rows::{density_of, nets, room, tracks_of, Nets};
+mod many_pin;
+mod three_pin;
+mod two_pin;
+
+use crate::rows::{density_of, nets, room, tracks_of, Family, Nets};
 use crate::{Figures, MOST_COLUMNS};
 
 /// What a pin does to its net; `None` where there is no pin.
@@ -26,6 +31,8 @@ struct Sweep<'a> {
     vertical: Vec<u16>,
     /// The drawing so far.
     entries: Vec<u16>,
+    /// The pairs of nets, each a double and a single one; only one sweep has any.
+    pairs: Vec<(u16, u16)>,
 }
 
 /// Routes a channel into a layout slice: figures, or the refusal's number. A
@@ -33,7 +40,7 @@ struct Sweep<'a> {
 pub fn route(top: &[u16], bottom: &[u16], layout: &mut [u16]) -> Result<Figures, u16> {
     let nets = nets(top, bottom, MOST_COLUMNS)?;
     let d = density_of(&nets, top.len());
-    if layout.len() < room(top.len(), tracks_of(&nets, d)) {
+    if layout.len() < room(top.len(), tracks_of(nets.family(), d)) {
         return Err(8);
     }
     let (figures, entries) = draw(top, bottom, &nets);
@@ -43,14 +50,15 @@ pub fn route(top: &[u16], bottom: &[u16], layout: &mut [u16]) -> Result<Figures,
 
 /// The figures and the drawing of a channel whose rows are not refused.
 pub fn draw(top: &[u16], bottom: &[u16], nets: &Nets) -> (Figures, Vec<u16>) {
+    let family = nets.family();
     let density = density_of(nets, top.len());
-    let tracks = tracks_of(nets, density);
+    let tracks = tracks_of(family, density);
     let mut sweep = Sweep::new(nets, tracks);
     for (&top, &bottom) in top.iter().zip(bottom) {
-        if nets.many() {
-            sweep.many_pin_column(top, bottom);
-        } else {
-            sweep.two_pin_column(top, bottom);
+        match family {
+            Family::TwoPin => sweep.two_pin_column(top, bottom),
+            Family::ThreePin => sweep.three_pin_column(top, bottom),
+            Family::ManyPin => sweep.many_pin_column(top, bottom),
         }
         sweep.close_column();
     }
@@ -73,6 +81,7 @@ impl<'a> Sweep<'a> {
             leaving: vec![0; t + 1],
             vertical: vec![0; t + 1],
             entries: Vec::new(),
+            pairs: Vec::new(),
         }
     }
 
@@ -182,7 +191,7 @@ impl<'a> Sweep<'a> {
         self.leaving[track] = net;
     }
 
-    // Rules that both sweeps use.
+    // What the sweeps share.
 
     /// One or two starting pins on free tracks, the top one higher.
     fn start_on_free(&mut self, top: u16, bottom: u16) {
@@ -243,91 +252,8 @@ impl<'a> Sweep<'a> {
         self.end_bottom(0, bottom);
     }
 
-    /// A column of a channel whose nets have two pins each.
-    fn two_pin_column(&mut self, top: u16, bottom: u16) {
-        use Kind::*;
-        // Rule 1.
-        if top == bottom {
-            if top != 0 {
-                self.rise(top, 0, self.t + 1);
-            }
-            return;
-        }
-        match (self.kind(top), self.kind(bottom)) {
-            // Rule 2.
-            (None | Start, None | Start) => match self.stretched() {
-                Some(net) => self.join_and_take(net, top, bottom),
-                Option::None => self.start_on_free(top, bottom),
-            },
-            // Rule 4.
-            (End, End) if self.lowest(bottom) < self.lowest(top) => self.end_both(top, bottom),
-            (End, End) => self.end_top(top, bottom),
-            // Rule 3.
-            (End, _) => self.end_top(top, bottom),
-            (_, End) => self.end_bottom(top, bottom),
-            _ => unreachable!("a net of two pins does not continue"),
-        }
-    }
-
-    /// A column of a channel with a net of three or more pins.
-    fn many_pin_column(&mut self, top: u16, bottom: u16) {
-        use Kind::*;
-        if top == bottom {
-            return self.one_net_or_none(top);
-        }
-        if self.relieve(top, bottom) {
-            return;
-        }
-        match (self.kind(top), self.kind(bottom)) {
-            // Rule 3.
-            (End, End) if self.highest(bottom) < self.lowest(top) => self.end_both(top, bottom),
-            (End, _) => self.end_top(top, bottom),
-            (_, End) => self.end_bottom(top, bottom),
-            // Rule 4.
-            (None | Start, None | Start) => self.start_on_free(top, bottom),
-            (Continue, Start) => self.continue_top_start_bottom(top, bottom),
-            (Start, Continue) => self.start_top_continue_bottom(top, bottom),
-            // Rule 5.
-            (Continue, None) => self.top_to(top, self.highest(top)),
-            (None, Continue) => self.bottom_to(bottom, self.lowest(bottom)),
-            (Continue, Continue) => self.continue_both(top, bottom),
-        }
-    }
-
-    /// Rule 1 of many-pin channels.
-    fn one_net_or_none(&mut self, net: u16) {
-        if net == 0 {
-            return;
-        }
-        let strands = self.strands(net);
-        if !strands.is_empty() || self.nets.pins(net) == 2 {
-            self.rise(net, 0, self.t + 1);
-            self.drop(net);
-            if self.follows(net) {
-                self.leaving[strands[0]] = net;
-            }
-        } else if !self.relieve(net, net) {
-            let track = self.free().next().expect("a free track");
-            self.rise(net, 0, self.t + 1);
-            self.leaving[track] = net;
-        }
-    }
-
-    /// Rule 2 of many-pin channels: whether it fits, and if so its action.
-    fn relieve(&mut self, top: u16, bottom: u16) -> bool {
-        let Some(net) = self.stretched().or_else(|| self.wide()) else {
-            return false;
-        };
-        self.join_and_take(net, top, bottom);
-        if self.follows(net) {
-            let second = self.strands(net)[1];
-            self.leaving[second] = net;
-        }
-        true
-    }
-
-    /// Rule 4: a continuing top net opposite a starting one.
-    fn continue_top_start_bottom(&mut self, top: u16, bottom: u16) {
+    /// A continuing top net; the bottom net gets one more track.
+    fn continue_top(&mut self, top: u16, bottom: u16) {
         let m = self.highest(top);
         let f = self.free().next().expect("a free track");
         self.top_to(top, m);
@@ -339,8 +265,8 @@ impl<'a> Sweep<'a> {
         }
     }
 
-    /// Rule 4: a continuing bottom net opposite a starting one.
-    fn start_top_continue_bottom(&mut self, top: u16, bottom: u16) {
+    /// A continuing bottom net; the top net gets one more track.
+    fn continue_bottom(&mut self, top: u16, bottom: u16) {
         let l = self.lowest(bottom);
         let f = self.free().next().expect("a free track");
         self.bottom_to(bottom, l);
@@ -349,31 +275,6 @@ impl<'a> Sweep<'a> {
         } else {
             self.leaving[f] = bottom;
             self.top_takes(top, l);
-        }
-    }
-
-    /// Rule 5: two continuing pins.
-    fn continue_both(&mut self, top: u16, bottom: u16) {
-        let (of_top, of_bottom) = (self.strands(top), self.strands(bottom));
-        let (m, l) = (self.highest(top), self.lowest(bottom));
-        if l < m {
-            self.top_to(top, m);
-            self.bottom_to(bottom, l);
-        } else if of_top.len() == 2 {
-            self.top_to(top, of_top[0]);
-            self.bottom_takes(bottom, of_top[0]);
-        } else if of_bottom.len() == 2 {
-            self.bottom_to(bottom, of_bottom[1]);
-            self.top_takes(top, of_bottom[1]);
-        } else {
-            let f = self.free().next().expect("a free track");
-            self.top_to(top, m);
-            if f < m {
-                self.bottom_takes(bottom, f);
-            } else {
-                self.leaving[f] = top;
-                self.bottom_takes(bottom, m);
-            }
         }
     }
 }

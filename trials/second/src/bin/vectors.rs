@@ -44,20 +44,39 @@ fn layout(case: &[&str]) -> Vec<u16> {
     runs.flat_map(|run| std::iter::repeat_n(run.entry, run.times)).collect()
 }
 
+/// The sum over all entries of (position + 1) × entry, modulo 2^32.
+fn sum(entries: &[u16]) -> u32 {
+    let product = |(i, &entry): (u32, &u16)| i.wrapping_mul(entry.into());
+    (1..).zip(entries).map(product).fold(0, u32::wrapping_add)
+}
+
+/// Whether a drawing is a case's, by the sum and the layout, or the one it has.
+fn drawing_agrees(case: &[&str], drawn: &[u16]) -> bool {
+    let by_sum = lines::<u32>(case, "sum").next().map(|wanted| wanted == [sum(drawn)]);
+    let by_layout = lines::<Run>(case, "layout").next().map(|_| layout(case) == drawn);
+    assert!(by_sum.is_some() || by_layout.is_some(), "no drawing in {case:?}");
+    by_sum != Some(false) && by_layout != Some(false)
+}
+
 fn route_agrees(case: &[&str]) -> bool {
     let (top, bottom) = (values(case, "top"), values(case, "bottom"));
-    let (figures, layout) = (values::<usize>(case, "density"), layout(case));
+    if let Some(refused) = lines::<u16>(case, "refused").next() {
+        let answers = [second::need(&top, &bottom), second::density(&top, &bottom)];
+        return answers.iter().all(|&answer| answer == Err(refused[0]))
+            && second::route(&top, &bottom, &mut []) == Err(refused[0]);
+    }
+    let figures = values::<usize>(case, "density");
     let Ok(need) = second::need(&top, &bottom) else {
         return false;
     };
     let mut drawn = vec![0; need];
     let got = second::route(&top, &bottom, &mut drawn);
     let wanted = second::Figures { density: figures[0], tracks: figures[1], width: figures[2] };
-    let used = wanted.width * (2 * wanted.tracks + 1);
+    drawn.truncate(wanted.width * (2 * wanted.tracks + 1));
     got == Ok(wanted)
         && second::density(&top, &bottom) == Ok(wanted.density)
-        && drawn[..used] == layout[..]
-        && second::check(&top, &bottom, wanted.width, wanted.tracks, &layout) == Checked::default()
+        && drawing_agrees(case, &drawn)
+        && second::check(&top, &bottom, wanted.width, wanted.tracks, &drawn) == Checked::default()
 }
 
 /// The width and the tracks of a drawing. A width of -1, one less than no
