@@ -98,8 +98,9 @@ typedef struct {
  * An accepted call's drawing is the first width * (2 * tracks + 1) entries of
  * the slice; the entries after it keep their contents. The drawing is a
  * solution. The tracks are d where each net has two pins, and then no
- * solution has fewer; else they are 2d - 1. The width is n plus the columns
- * added after column n, at most t/2 rounded down.
+ * solution has fewer; 3d/2 rounded down where the largest net has three pins
+ * and no net of three has its first two in one column; else 2d - 1. The width
+ * is n plus the columns added after column n, at most t/2 rounded down.
  */
 gaxwethi_route_result gaxwethi_route(const uint16_t *top, size_t n,
                                      const uint16_t *bottom, size_t m,

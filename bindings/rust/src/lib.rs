@@ -28,9 +28,12 @@ pub use refusal::Refusal;
 pub struct Figures {
     /// The most nets that cross a gap.
     pub density: usize,
-    /// The density where each net has two pins, else twice the density less 1.
+    /// With density d: d where each net has two pins; 3d/2 rounded down where the
+    /// largest net has three pins and no net of three has its first two in one
+    /// column; else 2d - 1.
     pub tracks: usize,
-    /// The columns of the channel and those added after them.
+    /// The columns of the channel and those added after them, at most half the
+    /// tracks rounded down.
     pub width: usize,
 }
 

@@ -1,32 +1,12 @@
 //! The library on the worked cases of the net report, `tools/cases/job2-*.txt`.
-//! A case is lines of a word and numbers, then an empty line.
+
+mod worked;
 
 use gaxwethi::*;
+use worked::{cases, lines, words};
 
 /// What stands in a table before a call.
 const KEPT: NetRecord = NetRecord { first: 6, last: 7, pins: 8, length: 9 };
-
-/// The numbers of a line after its first word, where 5x199 is the number 5, 199
-/// times; names between the numbers are passed over.
-fn numbers(line: &str) -> Vec<usize> {
-    let tokens = line.split(' ').skip(1);
-    let run = |token: &str| {
-        let (number, times) = token.split_once('x').unwrap_or((token, "1"));
-        Some(std::iter::repeat_n(number.parse().ok()?, times.parse().ok()?))
-    };
-    tokens.filter_map(run).flatten().collect()
-}
-
-/// The lines of a case that begin with a word, as numbers.
-fn lines<'a>(case: &'a str, word: &'a str) -> impl Iterator<Item = Vec<usize>> + 'a {
-    case.lines().filter(move |line| line.split(' ').next() == Some(word)).map(numbers)
-}
-
-/// The numbers of such a line, 16 bits each.
-fn words(case: &str, word: &str) -> Vec<u16> {
-    let line = lines(case, word).next().unwrap_or_else(|| panic!("no {word} in {case}"));
-    line.into_iter().map(|number| number.try_into().unwrap()).collect()
-}
 
 /// Number, place, column and row of the library's answer.
 fn answer(case: &str, table: &mut [NetRecord]) -> [usize; 4] {
@@ -70,14 +50,13 @@ fn filled(case: &str, records: usize) -> Vec<NetRecord> {
 
 /// Runs the cases of a text and counts them.
 fn run(text: &str) -> usize {
-    let cases = text.split("\n\n").filter(|case| !case.is_empty());
     let tried = |case: &str| {
         let records = lines(case, "table").next().unwrap()[0];
         let mut table = vec![KEPT; records];
         assert_eq!(answer(case, &mut table), wanted(case), "{case}");
         assert!(table == filled(case, records), "another table:\n{case}");
     };
-    cases.map(tried).count()
+    cases(text).map(tried).count()
 }
 
 #[test]

@@ -1,0 +1,29 @@
+//! Reads the worked cases of `tools/cases`. A case is lines of a word and
+//! numbers, then an empty line.
+
+/// The cases of a text.
+pub fn cases(text: &str) -> impl Iterator<Item = &str> {
+    text.split("\n\n").filter(|case| !case.is_empty())
+}
+
+/// The numbers of a line after its first word, where 5x199 is the number 5, 199
+/// times; names between the numbers are passed over.
+fn numbers(line: &str) -> Vec<usize> {
+    let tokens = line.split(' ').skip(1);
+    let run = |token: &str| {
+        let (number, times) = token.split_once('x').unwrap_or((token, "1"));
+        Some(std::iter::repeat_n(number.parse().ok()?, times.parse().ok()?))
+    };
+    tokens.filter_map(run).flatten().collect()
+}
+
+/// The lines of a case that begin with a word, as numbers.
+pub fn lines<'a>(case: &'a str, word: &'a str) -> impl Iterator<Item = Vec<usize>> + 'a {
+    case.lines().filter(move |line| line.split(' ').next() == Some(word)).map(numbers)
+}
+
+/// The numbers of such a line, 16 bits each.
+pub fn words(case: &str, word: &str) -> Vec<u16> {
+    let line = lines(case, word).next().unwrap_or_else(|| panic!("no {word} in {case}"));
+    line.into_iter().map(|number| number.try_into().unwrap()).collect()
+}
