@@ -1,6 +1,7 @@
 """The third sweep of the second router: no net over three pins, and none of three with its first two pins in one column.
 
-From document 02, Job 3, and part (b) of source document 000; docs/THREE-PIN.md has the rules in words.
+By document 02, Job 3, and part (b) of source document 000, with the definitions of crates/sweep/specs at hand; docs/THREE-PIN.md has the rules in
+words.
 """
 
 from second_column import both_end, bottom_adds, bottom_ends, can_both_end, close_net, go_direct, new_tracks, stretched_net, top_adds, top_ends

@@ -9,7 +9,7 @@ use native.Mathlib.Decide.{ℕ-discrete, decLt}
 use lib.Dec.{eqb, ltb}
 use lib.ListN.{length, getD, set}
 use Rattle.grid.specs.Channel.{pick}
-use Rattle.grid.proofs.Tests.{eq-eqb, ne-eqb}
+use Rattle.grid.proofs.Tests.{eq-eqb, ne-eqb, and-none}
 use Rattle.sets.specs.Member.{member, Put, LowestFrom}
 use Rattle.sweep.specs.declared.Double.{Double}
 use Rattle.sweep.specs.Drawing.{noDouble}
@@ -81,11 +81,7 @@ least-next s d r l m = record {
       where
         go : Dec (v < d) → Dec (v ≡ d) → butFor s d v ≡ false
         go (yes x) y = rw (l .below v a b (inr x)) refl
-        go (no x) (yes y) = rw (eq-eqb v d y) (and-last (member s v))
-          where
-            and-last : (q : Bool) → (q && false) ≡ false
-            and-last true = refl
-            and-last false = refl
+        go (no x) (yes y) = rw (eq-eqb v d y) (and-none (member s v) false refl)
         go (no x) (no y) = rw (m .below v (omega arith) b c) refl
 
 -- THE NET THAT ENDS LAST

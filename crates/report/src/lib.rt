@@ -11,7 +11,8 @@ ghost use Prim.Native.Nat.{_≤_};
 ghost use lib.ListN.{length, take, drop};
 ghost use Rattle.grid.specs.Channel.{rowsRefused};
 ghost use Rattle.grid.specs.Working.{ByNet};
-ghost use Rattle.report.specs.Report.{upTo, lengthIn, numberOnly, faultOf, faultWith, drawingNumber, refused, reported, collected, tableAfter, blankTable};
+ghost use Rattle.report.specs.Report.{upTo, lengthIn, numberOnly, faultOf, faultWith, drawingNumber, refused, reported, collected};
+ghost use Rattle.report.specs.Report.{tableAfter, blankTable};
 ghost use Rattle.report.specs.Working.{inTables, refusedWith, Countable};
 
 // Columns are counted from 1; an unused number has zeros. The length is counted in a drawing, and 0 without one. As a length needs 32 bits, all four have

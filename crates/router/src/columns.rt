@@ -12,7 +12,8 @@ ghost use Prim.Native.Nat.{_+_, _*_, _<_, _≤_};
 ghost use lib.ListN.{length, getD};
 ghost use Rattle.sweep.specs.Tracks.{after};
 ghost use Rattle.sweep.specs.Drawing.{moveAt, matesAfter};
-ghost use Rattle.router.specs.Working.{tracksIn, RowsAndLasts, Ready, Fitting, FitsAt, EachFits, Keeps, Mated, AtGap, DrawnTo, forms, OthersTold, PairsSettled};
+ghost use Rattle.router.specs.Working.{tracksIn, RowsAndLasts, Ready, Fitting, FitsAt, EachFits, Keeps, Mated, AtGap, DrawnTo};
+ghost use Rattle.router.specs.Working.{forms, OthersTold, PairsSettled};
 
 // Whether pairs of nets are formed in the sweep of a family.
 fn forms_pairs(family: Family) -> bool

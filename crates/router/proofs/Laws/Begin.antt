@@ -20,8 +20,7 @@ use Rattle.pairs.specs.Working.{loneBy}
 use Rattle.router.specs.Working.{tracksIn, Frees, Holds, Spans, Marked, Mated, AtGap, Remaining, extendedBy, wideBy, blank, noNets}
 use Rattle.grid.proofs.Counting.{zeros}
 use Rattle.sweep.proofs.Tracks.Changed.{no-strands}
-use Rattle.router.proofs.Laws.Sweeps.{on-small}
-use Rattle.router.proofs.Laws.Lowest.{many-on}
+use Rattle.router.proofs.Laws.Sweeps.{no-strands-over}
 
 -- some of many zeros
 take-zeros : (t n : ℕ) → t ≤ n → take t (replicate {A = ℕ} n 0) ≡ replicate t 0
@@ -101,7 +100,5 @@ all-remain top bottom first last {t} {a} {f} {l} {h} {n} s w fam sp e hh so v =
     large : (v : ℕ) → 257 ≤ v → (not (ltb (length top) (getD last v 0)) && ltb 0 (getD n v 0)) ≡ ltb 0 (many v (tracksIn t a))
     large v b =
         let z : getD n v 0 ≡ 0 = List·getD-eq-default n 0 (omega (arith, hh .numbers .size)) in
-        let m : many v (tracksIn t a) ≡ 0 =
-        ⊎-elim (λ (q : 0 < many v (tracksIn t a)). absurd (omega (arith, on-small hh v (many-on v (tracksIn t a) q)))) (λ (q : many v (tracksIn t a) ≤ 0). omega arith)
-        (below-or 0 (many v (tracksIn t a))) in
+        let m : many v (tracksIn t a) ≡ 0 = no-strands-over hh v b in
         rw (z, m) (and-none (not (ltb (length top) (getD last v 0))) false refl)

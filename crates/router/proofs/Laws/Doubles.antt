@@ -30,7 +30,7 @@ use Rattle.pairs.specs.Working.{loneBy, LoneAt, LeastAbove, butFor, doubleBy}
 use Rattle.pairs.proofs.Laws.{skips}
 use Rattle.router.specs.Working.{tracksIn, Holds, Spans, Ready, Marked, IsLowestJoint, ChosenThree, pinBy}
 use Rattle.router.proofs.Laws.Lowest.{OnTrack, least-net, many-on}
-use Rattle.router.proofs.Laws.Sweeps.{on-small, nonzero, joint-is, extended-small, extended-is, top-is, bottom-is}
+use Rattle.router.proofs.Laws.Sweeps.{on-small, no-strands-over, nonzero, joint-is, extended-small, extended-is, top-is, bottom-is}
 
 -- THE NET THAT ENDS LAST depends on the tests and the last columns alone
 module _ (e e′ : ℕ → ℕ) (p p′ : ℕ → Bool) where
@@ -60,10 +60,9 @@ module _ {t : ℕ} {d f low high number : List ℕ} (h : Holds t (tracksIn t d) 
 
   -- the numbers of strands
   number-is : (v : ℕ) → v ≢ 0 → getD number v 0 ≡ many v tr
-  number-is v n = ⊎-elim (λ (q : v < 257). h .numbers .at v (omega arith) (omega arith)) (λ (q : 257 ≤ v). List·getD-eq-default number 0 (omega (arith, h .numbers .size)) ∙ sym (none q)) (below-or v 257)
-    where
-      none : 257 ≤ v → many v tr ≡ 0
-      none q = ⊎-elim (λ (x : 0 < many v tr). absurd (omega (arith, on-small h v (many-on v tr x)))) (λ (x : many v tr ≤ 0). omega arith) (below-or 0 (many v tr))
+  number-is v n =
+      ⊎-elim (λ (q : v < 257). h .numbers .at v (omega arith) (omega arith))
+      (λ (q : 257 ≤ v). List·getD-eq-default number 0 (omega (arith, h .numbers .size)) ∙ sym (no-strands-over h v q)) (below-or v 257)
 
   -- the set of the unpaired double nets by its test
   lone-is : (v : ℕ) → member l v ≡ loneDouble tr mates v

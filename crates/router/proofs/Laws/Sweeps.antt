@@ -54,6 +54,12 @@ pub on-small : {t : ℕ} {tr d f l h n : List ℕ} → Holds t tr d f l h n → 
 on-small {t} {tr} {d} w v o =
     subst (λ (k : ℕ). k ≤ 256) (sym (tracks-at t d (o .0) (omega (arith, o .1, length-tracks t d (w .fits) (w .sized)))) ∙ o .2) (w .nets (suc (o .0)))
 
+-- so a net over 256 has no strand
+pub no-strands-over : {t : ℕ} {tr d f l h n : List ℕ} → Holds t tr d f l h n → (v : ℕ) → 257 ≤ v → many v (tracksIn t d) ≡ 0
+no-strands-over {t} {tr} {d} w v b =
+    ⊎-elim (λ (q : 0 < many v (tracksIn t d)). absurd (omega (arith, on-small w v (many-on v (tracksIn t d) q)))) (λ (q : many v (tracksIn t d) ≤ 0). omega arith)
+    (below-or 0 (many v (tracksIn t d)))
+
 -- ---- a column
 
 -- a number that is not 0
