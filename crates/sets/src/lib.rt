@@ -5,17 +5,17 @@ ghost use Prim.Native.Nat.{ℕ, _+_, _*_, _/_, _%_, _<_, _≤_};
 ghost use lib.ListN.{length, getD};
 ghost use Rattle.sets.specs.Member.{member, Put, LowestFrom};
 
-// The word that holds the number k, and its bit there.
+// The word that holds the number k, by a shift, and its bit there, by a mask.
 fn word_of(k: usize) -> usize
     ensures { λ r. ⌜ r ≡ k % 512 / 64 ⌝ }
 {
-    k % 512 / 64
+    k % 512 >> 6
 }
 
 fn bit_of(k: usize) -> usize
     ensures { λ r. ⌜ r ≡ k % 512 % 64 ⌝ }
 {
-    k % 64
+    k & 63
 }
 
 // The word w. It takes a slice, since a proof is told a lent slice's length, and that its elements fit, and is not told so of a lent array.
