@@ -9,12 +9,12 @@ use native.Mathlib.Decide.{ℕ-discrete, decLt}
 use lib.Dec.{eqb, ltb}
 use lib.ListN.{length, getD, set}
 use Rattle.grid.specs.Channel.{pick}
-use Rattle.grid.proofs.Tests.{eq-eqb, ne-eqb, and-none}
+use Rattle.grid.proofs.Tests.{eq-eqb, ne-eqb, and-none, Same, same, sameBy}
 use Rattle.sets.specs.Member.{member, Put, LowestFrom}
 use Rattle.sweep.specs.declared.Double.{Double}
 use Rattle.sweep.specs.Drawing.{noDouble}
 use Rattle.sweep.specs.Pairs.{unpair, pairUp, latestTo}
-use Rattle.pairs.specs.Working.{loneBy, LoneAt, MarksLone, LeastAbove, butFor, doubleBy}
+use Rattle.pairs.specs.Working.{loneBy, LoneAt, MarksLone, LeastAbove, butFor, doubleBy, apartFrom}
 
 -- a store past the end changes nothing
 pub set-past : (l : List ℕ) (i x : ℕ) → length l ≤ i → set l i x ≡ l
@@ -161,3 +161,43 @@ put-told number mates s s′ v b n h e x = tells
         go : Dec (j ≡ v) → LoneAt number mates s′ j
         go (yes d) = rw d own
         go (no d) = x .other j (λ i. d (i ∙ same)) ∙ o
+
+-- A NET APART FROM TWO OTHERS
+-- it is net u, or u is one of them
+apart-or : (u v w : ℕ) → (apartFrom v w u ≡ u) ⊎ ((u ≡ v) ⊎ (u ≡ w))
+unfolding apartFrom
+apart-or u v w = go (eqb u v) (eqb u w) (sameBy u v) (sameBy u w)
+  where
+    go : (p q : Bool) → Same u v p → Same u w q → (pick (p || q) 0 u ≡ u) ⊎ ((u ≡ v) ⊎ (u ≡ w))
+    go true q (same e) f = inr (inl e)
+    go false true e (same f) = inr (inr f)
+    go false false e f = inl refl
+
+-- by the test
+pub apart-none : (u v w : ℕ) → (eqb u v || eqb u w) ≡ true → 0 ≡ apartFrom v w u
+unfolding apartFrom
+apart-none u v w e = sym (rw e refl)
+
+pub apart-self : (u v w : ℕ) → (eqb u v || eqb u w) ≡ false → u ≡ apartFrom v w u
+unfolding apartFrom
+apart-self u v w e = sym (rw e refl)
+
+-- it is at most u
+pub apart-most : (u v w : ℕ) → apartFrom v w u ≤ u
+unfolding apartFrom
+apart-most u v w = go (eqb u v || eqb u w)
+  where
+    go : (b : Bool) → pick b 0 u ≤ u
+    go true = omega arith
+    go false = omega arith
+
+-- marked beside them it does for u
+pub marked-apart : (u v w : ℕ) {P : ℕ → Type 0} {Q : ℕ → Type 0} → ((j : ℕ) → (j ≡ apartFrom v w u) ⊎ ((j ≡ v) ⊎ ((j ≡ w) ⊎ P j)) → Q j)
+    → (j : ℕ) → (j ≡ u) ⊎ ((j ≡ v) ⊎ ((j ≡ w) ⊎ P j)) → Q j
+marked-apart u v w {P} {Q} f j (inl e) = go (apart-or u v w)
+  where
+    go : (apartFrom v w u ≡ u) ⊎ ((u ≡ v) ⊎ (u ≡ w)) → Q j
+    go (inl a) = f j (inl (e ∙ sym a))
+    go (inr (inl a)) = f j (inr (inl (e ∙ a)))
+    go (inr (inr a)) = f j (inr (inr (inl (e ∙ a))))
+marked-apart u v w f j (inr x) = f j (inr x)

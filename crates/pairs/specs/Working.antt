@@ -2,7 +2,7 @@
 use Prim.Native.Nat.{ℕ, _≤_, _<_}
 use mathlib.Core.Path.{_≡_}
 use mathlib.Core.Logic.{_≢_, _⊎_}
-use mathlib.Core.Bool.{Bool, true, false, not, _&&_}
+use mathlib.Core.Bool.{Bool, true, false, not, _&&_, _||_}
 use mathlib.Core.List.{List}
 use lib.Dec.{eqb, ltb}
 use lib.ListN.{getD}
@@ -27,6 +27,10 @@ MarksLone number mates v s s′ = (j : ℕ) → (j ≡ v) ⊎ LoneAt number mate
 -- s′ says so of three nets, and of the nets that s says so of
 abbrev pub MarksLoneThree : (number mates : List ℕ) (u v w : ℕ) (s s′ : List ℕ) → Type 0
 MarksLoneThree number mates u v w s s′ = (j : ℕ) → (j ≡ u) ⊎ ((j ≡ v) ⊎ ((j ≡ w) ⊎ LoneAt number mates s j)) → LoneAt number mates s′ j
+
+-- net u, 0 where it is v or w
+unfoldable pub apartFrom : (v w u : ℕ) → ℕ
+apartFrom v w u = pick (eqb u v || eqb u w) 0 u
 
 -- net v if column c is its last, else 0
 unfoldable pub endingBy : (last : List ℕ) (c v : ℕ) → ℕ

@@ -10,7 +10,7 @@ ghost use Rattle.grid.specs.Channel.{pick};
 ghost use Rattle.sets.specs.Member.{member};
 ghost use Rattle.sweep.specs.Pairs.{mate, latestTo};
 ghost use Rattle.sweep.specs.Pairs.{unpair as unpaired, pairUp};
-ghost use Rattle.pairs.specs.Working.{MarksLone, MarksLoneThree, endingBy, renewed, Numbers, MarksAllLone, LeastAbove, butFor, doubleBy};
+ghost use Rattle.pairs.specs.Working.{MarksLone, MarksLoneThree, endingBy, renewed, Numbers, MarksAllLone, LeastAbove, butFor, doubleBy, apartFrom};
 
 // What a table holds at v, 0 past its end.
 fn entry(table: &[u16], v: u16) -> u16
@@ -68,12 +68,19 @@ fn mark(many: &[u16], mates: &[u16], lone: &mut [u64; 8], v: u16)
     sets::put(lone, v as usize, b);
 }
 
+// Net u, or 0 where it is v or w: it need not be marked beside them.
+pub fn apart(u: u16, v: u16, w: u16) -> u16
+    ensures { λ r. ⌜ r ≡ apartFrom v w u ⌝ }
+{
+    if (u == v) | (u == w) { 0 } else { u }
+}
+
 // Marks three nets.
 fn mark_three(many: &[u16], mates: &[u16], lone: &mut [u64; 8], u: u16, v: u16, w: u16)
     ensures { λ _. ⌜ (u ≤ 511 → v ≤ 511 → w ≤ 511 → (member (now (lone .entry)) 0 ≡ false)
         → MarksLoneThree (now (many .entry)) (now (mates .entry)) u v w (now (lone .entry)) (now (lone .exit))) ⌝ }
 {
-    mark(many, mates, lone, u);
+    mark(many, mates, lone, apart(u, v, w));
     mark(many, mates, lone, v);
     mark(many, mates, lone, w);
 }

@@ -11,10 +11,13 @@ use sweep::Joint;
 use sweep::Move;
 use sweep::Pin;
 ghost use mathlib.Core.Path.{_≡_};
-ghost use mathlib.Core.Bool.{_&&_, _||_};
+ghost use mathlib.Core.Bool.{true, _&&_, _||_};
 ghost use Prim.Native.Nat.{ℕ, _<_, _≤_};
 ghost use lib.Dec.{eqb};
-ghost use lib.ListN.{length};
+ghost use lib.ListN.{length, getD};
+ghost use Rattle.sets.specs.Member.{member};
+ghost use Rattle.sweep.specs.Pairs.{latestTo};
+ghost use Rattle.pairs.specs.Working.{LeastAbove, butFor};
 ghost use Rattle.sweep.specs.Drawing.{move as moveBy};
 ghost use Rattle.router.specs.Working.{tracksIn, Frees, LowsAndHighs, Next, IsLowestJoint, ChosenTwo, ChosenThree, Ready, Keeps, Mated};
 
@@ -96,6 +99,20 @@ fn asks_doubles(a: Pin, b: Pin, n: Joint) -> bool
     (n.net == 0) & ((a.kind == 1) | (b.kind == 1))
 }
 
+// The unpaired double net that ends last, where a column asks for it.
+fn latest_asked(asks: bool, last: &[u16; 257], lone: &[u64; 8]) -> u16
+    ensures { λ r. ⌜ (asks ≡ true → r ≡ latestTo (λ v. getD (now (last .entry)) v 0) (member (now (lone .entry))) 511) ⌝ }
+{
+    if asks { pairs::latest(last, lone) } else { 0 }
+}
+
+// The lowest one other than net v, where a column asks for it.
+fn other_asked(asks: bool, lone: &[u64; 8], v: u16) -> u16
+    ensures { λ r. ⌜ (asks ≡ true → LeastAbove (butFor (now (lone .entry)) v) 0 r) ⌝ }
+{
+    if asks { pairs::other(lone, v) } else { 0 }
+}
+
 // What column c + 1 of a three-pin channel does.
 fn three_column(
     a: Pin,
@@ -123,15 +140,12 @@ fn three_column(
     let ea = last[i];
     let eb = last[j];
     let last_row = t as u16 + 1;
-    if asks_doubles(a, b, n) {
-        let v = pairs::latest(last, lone);
-        let w = pairs::other(lone, v);
-        let d = pairs::double_at(last, low, high, v);
-        let m = pairs::double_at(last, low, high, w);
-        return three_pin::choose_three(last_row, a, b, ea, eb, f, n, d, m);
-    }
-    let none = pairs::double_at(last, low, high, 0);
-    three_pin::choose_three(last_row, a, b, ea, eb, f, n, none, none)
+    let asks = asks_doubles(a, b, n);
+    let v = latest_asked(asks, last, lone);
+    let w = other_asked(asks, lone, v);
+    let d = pairs::double_at(last, low, high, v);
+    let m = pairs::double_at(last, low, high, w);
+    three_pin::choose_three(last_row, a, b, ea, eb, f, n, d, m)
 }
 
 // What column c + 1 does; by the sweep of its family.

@@ -187,7 +187,8 @@ pub(crate) fn mark_three(
     ensures { λ _. ⌜ MarksThree (now (last .entry)) (now (many .entry)) c family u v w (now (extended .entry)) (now (wide .entry))
         (now (extended .exit)) (now (wide .exit)) ⌝ }
 {
-    mark_net(last, many, extended, wide, c, u, family);
+    let a = pairs::apart(u, v, w);
+    mark_net(last, many, extended, wide, c, a, family);
     mark_net(last, many, extended, wide, c, v, family);
     mark_net(last, many, extended, wide, c, w, family);
 }

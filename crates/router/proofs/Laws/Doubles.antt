@@ -184,7 +184,7 @@ module _ (top bottom first last : List ℕ) {t : ℕ} {d f low high number s w :
 -- WHAT THE FUNCTION OF A COLUMN FOUND
 module _ (t : ℕ) (A B : Pin) (last low high s l tr : List ℕ) (c : ℕ) (x : Move) (f : Free) (n : Joint) (ef : f ≡ freeOf tr) (en : IsLowestJoint last low high s tr c n) where
   -- with the unpaired double nets
-  pub asked-three : (v w : ℕ) (D M : Double) → v ≡ latestTo (λ u. getD last u 0) (member l) 511 → LeastAbove (butFor l v) 0 w → D ≡ doubleBy last low high v → M ≡ doubleBy last low high w
+  asked-three : (v w : ℕ) (D M : Double) → v ≡ latestTo (λ u. getD last u 0) (member l) 511 → LeastAbove (butFor l v) 0 w → D ≡ doubleBy last low high v → M ≡ doubleBy last low high w
       → x ≡ chooseThree t A B (getD last (A .net) 0) (getD last (B .net) 0) f n D M → ChosenThree t A B last low high s l tr c x
   asked-three v w D M ev lw eD eM ex N D′ M′ lN lD lM =
       let i : n ≡ N = en N lN in
@@ -193,7 +193,7 @@ module _ (t : ℕ) (A B : Pin) (last low high s l tr : List ℕ) (c : ℕ) (x : 
       ex ∙ rw (ef, i, j, k) refl
 
   -- or without, where the column does not ask for them
-  pub idle-three : (D M : Double) → (eqb (n .net) 0 && (eqb (A .kind) 1 || eqb (B .kind) 1)) ≡ false
+  idle-three : (D M : Double) → (eqb (n .net) 0 && (eqb (A .kind) 1 || eqb (B .kind) 1)) ≡ false
       → x ≡ chooseThree t A B (getD last (A .net) 0) (getD last (B .net) 0) f n D M → ChosenThree t A B last low high s l tr c x
   idle-three D M z ex N D′ M′ lN lD lM =
       let i : n ≡ N = en N lN in
@@ -205,3 +205,10 @@ module _ (t : ℕ) (A B : Pin) (last low high s l tr : List ℕ) (c : ℕ) (x : 
           go : (q : Bool) → eqb (n .net) 0 ≡ q → (q && (eqb (A .kind) 1 || eqb (B .kind) 1)) ≡ false → ((A .kind ≢ 1) × (B .kind ≢ 1)) ⊎ (n .net ≢ 0)
           go true e y = let (a, b) = or-false (eqb (A .kind) 1) (eqb (B .kind) 1) y in inl (eqb-false (A .kind) 1 a, eqb-false (B .kind) 1 b)
           go false e y = inr (eqb-false (n .net) 0 e)
+
+  -- one or the other
+  pub found-three : (b : Bool) (v w : ℕ) (D M : Double) → b ≡ (eqb (n .net) 0 && (eqb (A .kind) 1 || eqb (B .kind) 1))
+      → (b ≡ true → v ≡ latestTo (λ u. getD last u 0) (member l) 511) → (b ≡ true → LeastAbove (butFor l v) 0 w) → D ≡ doubleBy last low high v → M ≡ doubleBy last low high w
+      → x ≡ chooseThree t A B (getD last (A .net) 0) (getD last (B .net) 0) f n D M → ChosenThree t A B last low high s l tr c x
+  found-three true v w D M eb ev lw eD eM ex = asked-three v w D M (ev refl) (lw refl) eD eM ex
+  found-three false v w D M eb ev lw eD eM ex = idle-three D M (sym eb) ex

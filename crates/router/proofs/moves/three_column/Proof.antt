@@ -1,6 +1,6 @@
--- `three_column` meets its contract, by `asked-three` and `idle-three`.
-use Rattle.router.proofs.Laws.Doubles.{asked-three, idle-three}
-use mathlib.Core.Path.{refl, sym, _∙_}
+-- `three_column` meets its contract, by `found-three`.
+use Rattle.router.proofs.Laws.Doubles.{found-three}
+use mathlib.Core.Path.{refl}
 use borrow.Author.Needs.{needs}
 use Rattle.router.specs.Working.{tracksIn}
 use Rattle.router.proofs.moves.three_column.Statement.{statement}
@@ -41,11 +41,11 @@ add-last-row c = search needs
 asks-doubles-requires : tie.Need-asks-doubles-requires
 asks-doubles-requires c κs = search needs
 
-latest-requires : tie.Need-latest-requires
-latest-requires c κs = search needs
+latest-asked-requires : tie.Need-latest-asked-requires
+latest-asked-requires c κs = search needs
 
-other-requires : tie.Need-other-requires
-other-requires c κs = search needs
+other-asked-requires : tie.Need-other-asked-requires
+other-asked-requires c κs = search needs
 
 double-at-requires : tie.Need-double-at-requires
 double-at-requires c κs = search needs
@@ -56,29 +56,17 @@ double-at-requires-2 c κs = search needs
 choose-three-requires : tie.Need-choose-three-requires
 choose-three-requires c κs = search needs
 
-double-at-requires-3 : tie.Need-double-at-requires-3
-double-at-requires-3 c κs = search needs
-
-choose-three-requires-2 : tie.Need-choose-three-requires-2
-choose-three-requires-2 c κs = search needs
-
 returns : tie.Need-returns
 returns c =
-    let o = c .before .before .before .before .before .before .before .before .before .before .before .before .before .before .before .before .before .before .before .before in
-    let f = c .before .before .before .before .before .before .before .before .before .before .before .before .before .before .before .before .before .before .before .free-tracks in
-    let n = c .before .before .before .before .before .before .before .before .before .before .before .before .before .before .before .before .before .before .lowest-joint in
-    asked-three (o .args .t) (o .args .a) (o .args .b) (o .args .last .now) (o .args .low .now) (o .args .high .now) (o .args .extended .now) (o .args .lone .now)
+    let o = c .before .before .before .before .before .before .before .before .before .before .before .before .before .before .before .before .before .before in
+    let f = c .before .before .before .before .before .before .before .before .before .before .before .before .before .before .before .before .before .free-tracks in
+    let n = c .before .before .before .before .before .before .before .before .before .before .before .before .before .before .before .before .lowest-joint in
+    let q = c .before .before .before .before .before .before .before .before .before .before .before .asks-doubles in
+    let v = c .before .before .before .before .before .before .before .before .before .before .latest-asked in
+    let w = c .before .before .before .before .before .before .before .before .before .other-asked in
+    found-three (o .args .t) (o .args .a) (o .args .b) (o .args .last .now) (o .args .low .now) (o .args .high .now) (o .args .extended .now) (o .args .lone .now)
     (tracksIn (o .args .t) (o .args .tracks .now)) (o .args .c) _ (f .result) (n .result) (f .ensures (o .args .t) (o .args .tracks .now) (o .pre .0 .3) (o .pre .0 .4) (o .pre .0 .5)) (n .ensures)
-    (c .before .before .before .before .before .before .before .before .before .before .latest .result) (c .before .before .before .before .before .before .before .before .before .other .result) _ _ (c .before .before .before .before .before .before .before .before .before .before .latest .ensures) (c .before .before .before .before .before .before .before .before .before .other .ensures) (c .before .before .before .before .before .double-at .ensures) (c .before .double-at2 .ensures) (c .choose-three .ensures (o .args .t) refl)
-
-returns-2 : tie.Need-returns-2
-returns-2 c =
-    let o = c .before .before .before .before .before .before .before .before .before .before .before .before .before in
-    let f = c .before .before .before .before .before .before .before .before .before .before .before .before .free-tracks in
-    let n = c .before .before .before .before .before .before .before .before .before .before .before .lowest-joint in
-    idle-three (o .args .t) (o .args .a) (o .args .b) (o .args .last .now) (o .args .low .now) (o .args .high .now) (o .args .extended .now) (o .args .lone .now)
-    (tracksIn (o .args .t) (o .args .tracks .now)) (o .args .c) _ (f .result) (n .result) (f .ensures (o .args .t) (o .args .tracks .now) (o .pre .0 .3) (o .pre .0 .4) (o .pre .0 .5)) (n .ensures)
-    _ _ (sym (c .before .before .before .before .before .before .asks-doubles .ensures) ∙ c .before .before .before .before .before .if1 .left) (c .choose-three2 .ensures (o .args .t) refl)
+    (q .result) (v .result) (w .result) _ _ (q .ensures) (v .ensures) (w .ensures) (c .before .before .before .before .before .double-at .ensures) (c .before .double-at2 .ensures) (c .choose-three .ensures (o .args .t) refl)
 
 pub three-column-spec : {M : Type 1} → statement M
 three-column-spec =
@@ -95,12 +83,9 @@ three-column-spec =
     cast-last-row
     add-last-row
     asks-doubles-requires
-    latest-requires
-    other-requires
+    latest-asked-requires
+    other-asked-requires
     double-at-requires
     double-at-requires-2
     choose-three-requires
-    returns
-    double-at-requires-3
-    choose-three-requires-2
-    returns-2)
+    returns)
