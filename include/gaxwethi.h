@@ -78,9 +78,11 @@ typedef struct {
 } gaxwethi_need_result;
 
 /*
- * The length that a layout slice must have for gaxwethi_route: with t the
- * tracks of the channel, (n + t/2 rounded down) * (2t + 1). Refuses with 4
- * to 7. It is at most 511 * 1023.
+ * The length that a layout slice must have for gaxwethi_route: that of the
+ * drawing, w * (2t + 1), with t the tracks of the channel and w the width that
+ * the sweep will reach. Refuses with 4 to 7. The call runs the sweep without
+ * drawing. The length is at most (n + t/2 rounded down) * (2t + 1), and so at
+ * most 511 * 1023.
  */
 gaxwethi_need_result gaxwethi_need(const uint16_t *top, size_t n,
                                    const uint16_t *bottom, size_t m);
@@ -101,6 +103,10 @@ typedef struct {
  * solution has fewer; 3d/2 rounded down where the largest net has three pins
  * and no net of three has its first two in one column; else 2d - 1. The width
  * is n plus the columns added after column n, at most t/2 rounded down.
+ *
+ * A slice of (n + t/2 rounded down) * (2t + 1) entries or more is drawn into at
+ * once. With a shorter one the sweep runs twice, the first time without
+ * drawing, to see that the drawing fits.
  */
 gaxwethi_route_result gaxwethi_route(const uint16_t *top, size_t n,
                                      const uint16_t *bottom, size_t m,

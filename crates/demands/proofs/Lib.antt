@@ -8,3 +8,4 @@ pub mod Slices
 pub mod Solutions
 pub mod Families
 pub mod Tracks
+pub mod Needs

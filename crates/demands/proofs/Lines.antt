@@ -1,5 +1,5 @@
 -- The lines of the table by the libraries' tests. Assumes nothing.
-use Prim.Native.Nat.{ℕ, zero, suc, _+_, _*_, _-_, _/_, _≤_, _<_}
+use Prim.Native.Nat.{ℕ, zero, suc, _+_, _*_, _-_, _≤_, _<_}
 use mathlib.Core.Path.{_≡_, refl, sym, subst, ap}
 use mathlib.Core.Logic.{_≢_, _⊎_, inl, inr, ⊎-elim}
 use mathlib.Core.Bool.{Bool, true, false, not, _||_}
@@ -7,14 +7,13 @@ use mathlib.Core.List.{List, [], _∷_}
 use native.Mathlib.Omega.{arith}
 use lib.Dec.{eqb, ltb}
 use lib.ListN.{length}
-use Rattle.grid.specs.Channel.{pick, bit, sum, count, over, pins, tracks, rowsRefused}
+use Rattle.grid.specs.Channel.{pick, bit, sum, count, over, pins, rowsRefused}
 use Rattle.grid.specs.Refusals.{firstRefusal}
 use Rattle.grid.proofs.Tests.{ltb-true, ltb-false, eqb-true, eqb-false, not-true, not-false, or-false, not-both}
 use Rattle.grid.proofs.Answers.{no-later}
 use Rattle.grid.proofs.Rows.{rows-fit, rows-more}
 use Rattle.record.specs.Record.{word, wrongLength, wrongKind, wrongBody, recordRefused}
-use Rattle.router.specs.Answers.{sliceLength}
-use Rattle.demands.specs.Table.{Table, end, First, Over, ofRecord, ofRows, ofLayout, ofNetTable}
+use Rattle.demands.specs.Table.{Table, end, line, First, Over, ofRecord, ofRows, ofNetTable}
 use Rattle.demands.proofs.Table.{by-test, Numbered}
 
 -- TESTS IN WORDS
@@ -115,17 +114,14 @@ module _ (top bottom : List ℕ) where
   unfolding First
   rows-first most m = subst (λ (k : ℕ). First (ofRows top bottom most end) k) (no-later (rowsRefused top bottom most)) (rows-lines most m 0 end (λ e. refl))
 
-  -- LENT SLICE
-  pub layout-first : (lent : ℕ) → First (ofLayout top bottom lent) (pick (ltb lent (sliceLength top bottom)) 8 0)
-  unfolding First sliceLength
-  layout-first lent =
-      by-test (ltb lent ((length top + tracks top bottom / 2) * (2 * tracks top bottom + 1))) 8 0 end
-      (ltb-true lent ((length top + tracks top bottom / 2) * (2 * tracks top bottom + 1)))
-      (less lent ((length top + tracks top bottom / 2) * (2 * tracks top bottom + 1))) (λ e. refl)
+-- LENT SLICE, of which `asked` entries are asked for
+pub slice-first : (asked lent : ℕ) → First (line 8 (lent < asked) end) (pick (ltb lent asked) 8 0)
+unfolding First
+slice-first asked lent = by-test (ltb lent asked) 8 0 end (ltb-true lent asked) (less lent asked) (λ e. refl)
 
-  pub layout-numbered : (lent : ℕ) → Numbered (ofLayout top bottom lent)
-  unfolding Numbered
-  layout-numbered lent = (omega arith, tt)
+pub slice-numbered : (asked lent : ℕ) → Numbered (line 8 (lent < asked) end)
+unfolding Numbered
+slice-numbered asked lent = (omega arith, tt)
 
 -- NET TABLE
 pub table-lines : (lent x : ℕ) (rest : Table) → First rest x → First (ofNetTable lent rest) (firstRefusal (pick (ltb lent 256) 9 0) x)

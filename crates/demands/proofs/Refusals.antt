@@ -4,7 +4,9 @@ use mathlib.Core.Path.{_≡_, refl, sym, subst, ap, _∙_}
 use mathlib.Core.Logic.{_⊎_}
 use mathlib.Core.List.{List}
 use native.Mathlib.Omega.{arith}
-use Rattle.grid.specs.Channel.{rowsRefused}
+use lib.Dec.{ltb}
+use Rattle.grid.specs.Channel.{pick, rowsRefused}
+use Rattle.grid.specs.Refusals.{firstRefusal}
 use Rattle.grid.specs.Answers as counting
 use Rattle.grid.proofs.Answers.{check-number, check-figures, density-number, density-figure, accepted-old, no-later}
 use Rattle.router.specs.Answers as routing
@@ -21,9 +23,9 @@ use Rattle.record.specs.Record.{topRow, bottomRow}
 use Rattle.record.proofs.Refusals.{numbered, columns-by}
 use Rattle.listing.specs.Listing as listing
 use Rattle.listing.proofs.Records.{listed-number, listed-length}
-use Rattle.demands.specs.Table.{First, end, ofRecord, ofRows, ofLayout, ofNetTable, ofDrawing, ofReported}
+use Rattle.demands.specs.Table.{First, end, line, ofRecord, ofRows, ofLayout, ofNetTable, ofDrawing, ofReported}
 use Rattle.demands.specs.Refusals.{Refuses, RefusesRecord, Zeros, ZerosRecord, Places, LooseEnds, ReportsFaults}
-use Rattle.demands.proofs.Lines.{rows-lines, rows-first, layout-first, table-lines, record-lines}
+use Rattle.demands.proofs.Lines.{rows-lines, rows-first, slice-first, table-lines, record-lines}
 use Rattle.demands.proofs.Drawings.{drawing-lines, strange-least, pin-least, last-least, split-least, loose-least, loose-point}
 
 -- THE NUMBERS
@@ -32,12 +34,16 @@ module _ (top bottom : List ℕ) where
   within : (most : ℕ) → min most 256 ≤ 256
   within most = omega arith
 
+  -- the rows, then a slice of which `asked` entries are asked for
+  pub slice-lines : (most asked lent : ℕ)
+      → First (ofRows top bottom (min most 256) (line 8 (lent < asked) end)) (firstRefusal (counting.refusedWithin top bottom most) (pick (ltb lent asked) 8 0))
+  slice-lines most asked lent = rows-lines top bottom (min most 256) (within most) _ _ (λ e. slice-first asked lent)
+
   pub route-first : (most lent : ℕ)
       → First (ofRows top bottom (min most 256) (ofLayout top bottom lent)) (routing.numberOf (routing.answer top bottom most lent))
-  unfolding routing.refused
+  unfolding routing.refused routing.sliceLength
   route-first most lent =
-      subst (λ (k : ℕ). First (ofRows top bottom (min most 256) (ofLayout top bottom lent)) k) (sym (answer-number top bottom most lent))
-      (rows-lines top bottom (min most 256) (within most) _ _ (λ e. layout-first top bottom lent))
+      subst (λ (k : ℕ). First (ofRows top bottom (min most 256) (ofLayout top bottom lent)) k) (sym (answer-number top bottom most lent)) (slice-lines most _ lent)
 
   -- the lines of a report's drawing
   reported-lines : rowsRefused top bottom 256 ≡ 0 → (drawing : Drawing) (D : List ℕ) → First (ofReported top bottom drawing D) (reporting.drawingNumber top bottom drawing D)

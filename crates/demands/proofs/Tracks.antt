@@ -16,14 +16,14 @@ use Rattle.router.specs.declared.Figures.{Figures}
 use Rattle.router.specs.Answers as routing
 use Rattle.sweep.proofs.Solved.{added-two, added-three, added-many}
 use Rattle.router.proofs.Applied.{solved, width-least}
-use Rattle.router.proofs.Answered.{need-entries, answer-number, answer-figures, written-refused, written-drawn}
+use Rattle.router.proofs.Answered.{answer-number, answer-figures, written-refused, written-drawn}
 use Rattle.record.specs.Record.{topRow, bottomRow, recordRefused}
 use Rattle.listing.specs.Listing as listing
 use Rattle.listing.proofs.Records.{listed-number}
 use Rattle.demands.specs.Table.{LetsThrough, end, ofRecord, ofRows, ofLayout}
 use Rattle.demands.specs.Tracks.{PairsOnly, ChannelDrawn, Routes, ListsRecord, ThirdDemand}
 use Rattle.demands.proofs.Table.{zero-just-if-let}
-use Rattle.demands.proofs.Lines.{rows-first, rows-numbered, layout-numbered, record-numbered, none-numbered}
+use Rattle.demands.proofs.Lines.{rows-first, rows-numbered, slice-numbered, record-numbered, none-numbered}
 use Rattle.demands.proofs.Families.{family-of, one-kind}
 use Rattle.demands.proofs.Refusals.{route-first, list-first}
 
@@ -32,21 +32,11 @@ module _ (top bottom : List ℕ) (ok : rowsRefused top bottom 256 ≡ 0) where
   fit : RowsFit top bottom
   fit = rows-fit top bottom ok
 
-  -- the slice length that is stated
-  stated : routing.entriesOf (routing.need top bottom) ≡ routing.sliceLength top bottom
-  stated = need-entries top bottom ∙ accepted-new (rowsRefused top bottom 256) _ 0 ok
-
-  -- a slice of that length is let through
-  enough : LetsThrough (ofLayout top bottom (routing.entriesOf (routing.need top bottom)))
-  unfolding LetsThrough routing.sliceLength
-  enough = ((λ h. omega (arith, h, stated)), tt)
-
   -- with two-pin nets only no wiring has fewer tracks, and so no solution
   fewest-tracks : PairsOnly top bottom → (w t : ℕ) (D : List ℕ) → Wiring top bottom w t D → tracks top bottom ≤ t
   fewest-tracks p w t D s = omega (arith, two-density top bottom (family-of top bottom fit TwoPin p), density-le top bottom w t D (fit .same) s)
 
   drawn : ChannelDrawn top bottom
-  unfolding routing.sliceLength
   drawn =
       record {
         solution = solved top bottom ok;
@@ -63,8 +53,6 @@ module _ (top bottom : List ℕ) (ok : rowsRefused top bottom 256 ≡ 0) where
         rowsDensity = λ most e.
             ap (λ s. s .density) (check-figures top bottom most ∙ accepted-new (counting.refusedWithin top bottom most) _ counting.noSize (sym (check-number top bottom most) ∙ e));
         countedDensity = density-figure top bottom ∙ accepted-new (rowsRefused top bottom 256) _ 0 ok;
-        stated = stated;
-        enough = enough;
       }
 
 -- rows that the table lets through are accepted
@@ -83,7 +71,7 @@ routes top bottom most old =
     record {
       exactly =
           zero-just-if-let (ofRows top bottom (min most 256) (ofLayout top bottom lent))
-          (rows-numbered top bottom (min most 256) (ofLayout top bottom lent) (layout-numbered top bottom lent))
+          (rows-numbered top bottom (min most 256) (ofLayout top bottom lent) (slice-numbered _ lent))
           (routing.numberOf (routing.answer top bottom most lent)) (route-first top bottom most lent);
       reports = λ e. reported (figures e);
       draws = λ e. written-drawn top bottom most old (sym n ∙ e);

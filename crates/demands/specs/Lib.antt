@@ -8,3 +8,5 @@ pub mod Slices
 pub mod Solutions
 -- The third demand, whole: `Tracks`.
 pub mod Tracks
+-- Document 02's requests of the slice that routing is lent: `Needs`.
+pub mod Needs

@@ -1,10 +1,11 @@
 -- Document 01, "Refused, by place": the table itself, line by line, with what document 02 adds.
-use Prim.Native.Nat.{ℕ, _+_, _*_, _-_, _/_, _≤_, _<_}
+use Prim.Native.Nat.{ℕ, _+_, _*_, _-_, _≤_, _<_}
 use mathlib.Core.Path.{_≡_}
 use mathlib.Core.Logic.{_≢_, _⊎_}
 use mathlib.Core.List.{List}
 use lib.ListN.{length, getD}
 use Rattle.grid.specs.Channel.{pins, tracks}
+use Rattle.router.specs.Answers.{width, formulaLength}
 use Rattle.checker.specs.Faults.{Strange, PinWrong, LeavesLast, Split, LooseEnd}
 use Rattle.report.specs.declared.Drawing.{Drawing}
 use Rattle.report.specs.declared.Drawing.the-variants.{Absent, Given}
@@ -54,9 +55,13 @@ module _ (top bottom : List ℕ) where
       (line 7 ((v : ℕ) × (v ≢ 0) × (pins top bottom v ≡ 1))
       rest)))
 
-  -- LENT SLICE: "layout shorter than (n + t/2 rounded down) × (2t + 1)"
+  -- LENT SLICE: document 02, Job 5, "the true one, w × (2t + 1) with the width that the sweep will reach, and 8 is given only below that"
   abbrev pub ofLayout : (lent : ℕ) → Table
-  ofLayout lent = line 8 (lent < (length top + tracks top bottom / 2) * (2 * tracks top bottom + 1)) end
+  ofLayout lent = line 8 (lent < width top bottom * (2 * tracks top bottom + 1)) end
+
+  -- the same in document 01: "layout shorter than (n + t/2 rounded down) × (2t + 1)"
+  abbrev pub ofFormula : (lent : ℕ) → Table
+  ofFormula lent = line 8 (lent < formulaLength (length top) (tracks top bottom)) end
 
 -- NET TABLE: "net table under 256 records"
 abbrev pub ofNetTable : (lent : ℕ) → Table → Table

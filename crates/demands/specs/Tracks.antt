@@ -59,9 +59,6 @@ pub record ChannelDrawn (top bottom : List ℕ) : Type 0 where
   -- the densities reported are the d of the definition: the row check's and the density call's
   pub rowsDensity : (most : ℕ) → counting.numberOf (counting.rowCheck top bottom most) ≡ 0 → counting.sizeOf (counting.rowCheck top bottom most) .density ≡ density top bottom
   pub countedDensity : counting.countDensity (counting.densityCount top bottom) ≡ density top bottom
-  -- the slice length stated is "(n + t/2 rounded down) × (2t + 1)", and a slice of that length is let through
-  pub stated : routing.entriesOf (routing.need top bottom) ≡ (length top + tracks top bottom / 2) * (2 * tracks top bottom + 1)
-  pub enough : LetsThrough (ofLayout top bottom (routing.entriesOf (routing.need top bottom)))
 
 -- ROUTING, with a limit of columns `most` (256; 64 in `knee`; one over 256 stands for 256) and a slice that held `old`: it draws exactly when the table lets the call through
 pub record Routes (top bottom : List ℕ) (most : ℕ) (old : List ℕ) : Type 0 where

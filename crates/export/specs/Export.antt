@@ -31,7 +31,7 @@ use Rattle.export.specs.declared.ListResult.{ListResult}
 abbrev pub densityOf : DensityCount → DensityResult
 densityOf a = record { number = countNumber a; density = countDensity a }
 
--- the slice length that a routing call wants
+-- the slice length that a routing call needs
 abbrev pub needOf : Length → NeedResult
 needOf a = record { number = lengthNumberOf a; length = entriesOf a }
 

@@ -74,7 +74,7 @@ pub extern "C" fn gaxwethi_density(top: &[u16], bottom: &[u16]) -> DensityResult
     }
 }
 
-// The slice length that a routing call wants.
+// The slice length that a routing call needs.
 #[no_mangle]
 pub extern "C" fn gaxwethi_need(top: &[u16], bottom: &[u16]) -> NeedResult
     ensures { λ r. ⌜ r ≡ needOf (need (now (top .entry)) (now (bottom .entry))) ⌝ }

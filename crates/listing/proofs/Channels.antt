@@ -17,8 +17,8 @@ use Rattle.router.specs.declared.Figures.{Figures}
 use Rattle.router.specs.declared.Routed.{Routed}
 use Rattle.router.specs.declared.Routed.the-variants.{Drawn, Refused}
 use Rattle.router.specs.Answers.{width, layout}
-use Rattle.router.specs.Answers.{routedBy, sliceLength, figures, refused, answer, written}
-use Rattle.router.proofs.Applied.{solved, layout-length, width-half, layout-fits}
+use Rattle.router.specs.Answers.{routedBy, formulaLength, figures, refused, answer, written}
+use Rattle.router.proofs.Applied.{solved, layout-length, layout-fills, width-half, within-formula}
 use Rattle.router.proofs.Answered.{passes, refuses, written-drawn, written-length}
 use Rattle.listing.specs.declared.Listed.the-variants as listed
 use Rattle.listing.specs.Text.{drawingText}
@@ -71,8 +71,7 @@ module _ (top bottom : List ℕ) where
         go (no h) = omega arith
 
     -- few tracks and columns, and entries for which the layout has room
-    small : (tracks top bottom ≤ 127) × (width top bottom ≤ 127) × (sliceLength top bottom ≤ 32385)
-    unfolding sliceLength
+    small : (tracks top bottom ≤ 127) × (width top bottom ≤ 127) × (formulaLength (length top) (tracks top bottom) ≤ 32385)
     small = figures-few (length top) (density top bottom) (tracks top bottom) (width top bottom) short
         (density-few top bottom (rows-fit top bottom accepted .same)) tracks-most (width-half top bottom accepted)
 
@@ -92,20 +91,19 @@ module _ (top bottom : List ℕ) where
 
     -- routing draws
     drawn-by : (lent : ℕ) → 32385 ≡ lent → refused top bottom 64 lent ≡ 0
-    drawn-by lent l = passes top bottom 64 lent ok (omega (arith, small .2))
+    drawn-by lent l = passes top bottom 64 lent ok (omega (arith, within-formula top bottom accepted, small .2))
 
     -- and its drawing can be listed
     leaves : (old : List ℕ) → 32385 ≡ length old → Drawable top bottom (figures top bottom) (written top bottom 64 old)
     unfolding figures
     leaves old l =
         let p = drawn-by (length old) l in
-        let s = layout-fits top bottom accepted (length old) (omega (arith, small .2)) in
         let f : drawingText (density top bottom) (tracks top bottom) (width top bottom) (written top bottom 64 old) ≡ channelText top bottom =
         ap (λ z. drawingText (density top bottom) (tracks top bottom) (width top bottom) z) (written-drawn top bottom 64 old p)
         ∙ drawn-front (layout top bottom) (drop (length (layout top bottom)) old) (density top bottom) (tracks top bottom) (width top bottom)
         (omega (arith, layout-length top bottom accepted)) in
         record {
-          long = omega (arith, written-length top bottom 64 old p);
+          long = omega (arith, written-length top bottom 64 old p, layout-length top bottom accepted, layout-fills top bottom accepted, within-formula top bottom accepted, small .2);
           few = small .0;
           room = λ text e. subst (λ z. Room text 0 z) (sym f)
               (drawn-room (layout top bottom) entries-few text (density top bottom) (tracks top bottom) (width top bottom) e

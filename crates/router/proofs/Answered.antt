@@ -19,7 +19,7 @@ use Rattle.router.specs.declared.Routed.{Routed}
 use Rattle.router.specs.declared.Length.{Length}
 use Rattle.router.specs.Answers.{numberOf, figuresOf, noFigures, lengthNumberOf, entriesOf, routedBy, lengthBy}
 use Rattle.router.specs.Answers.{width, layout, sliceLength, need, refused, figures, answer, written}
-use Rattle.router.proofs.Applied.{solved, layout-length, layout-fits}
+use Rattle.router.proofs.Applied.{solved, layout-length, layout-fills}
 
 -- NUMBER AND FIGURES
 
@@ -31,6 +31,15 @@ routed-parts (suc k) x = (refl, refl)
 length-parts : (k m : ℕ) → (lengthNumberOf (lengthBy k m) ≡ k) × (entriesOf (lengthBy k m) ≡ ifAccepted k m 0)
 length-parts zero m = (refl, refl)
 length-parts (suc k) m = (refl, refl)
+
+-- a call that nothing refuses: the rows are accepted, and the slice has the entries asked for
+pub none-refused : (k asked lent : ℕ) → firstRefusal k (pick (ltb lent asked) 8 0) ≡ 0 → (k ≡ 0) × (asked ≤ lent)
+none-refused k asked lent = go k (ltb lent asked) (belowBy lent asked)
+  where
+    go : (k : ℕ) (q : Bool) → Below lent asked q → firstRefusal k (pick q 8 0) ≡ 0 → (k ≡ 0) × (asked ≤ lent)
+    go zero true b e = absurd (omega arith)
+    go zero false (above b) e = (refl, b)
+    go (suc k) q b e = absurd (omega arith)
 
 -- THE CALL THAT STATES THE SLICE LENGTH
 module _ (top bottom : List ℕ) where
@@ -73,12 +82,7 @@ module _ (top bottom : List ℕ) (most : ℕ) where
   -- WHEN IT IS LET THROUGH: the rows are, and the slice is long enough
   pub let-through : (lent : ℕ) → refused top bottom most lent ≡ 0 → (refusedWithin top bottom most ≡ 0) × (sliceLength top bottom ≤ lent)
   unfolding refused
-  let-through lent = go (refusedWithin top bottom most) (ltb lent (sliceLength top bottom)) (belowBy lent (sliceLength top bottom))
-    where
-      go : (k : ℕ) (q : Bool) → Below lent (sliceLength top bottom) q → firstRefusal k (pick q 8 0) ≡ 0 → (k ≡ 0) × (sliceLength top bottom ≤ lent)
-      go zero true b e = absurd (omega arith)
-      go zero false (above b) e = (refl, b)
-      go (suc k) q b e = absurd (omega arith)
+  let-through lent e = none-refused (refusedWithin top bottom most) (sliceLength top bottom) lent e
 
   -- and then it is
   pub passes : (lent : ℕ) → refusedWithin top bottom most ≡ 0 → sliceLength top bottom ≤ lent → refused top bottom most lent ≡ 0
@@ -116,7 +120,7 @@ module _ (top bottom : List ℕ) (most : ℕ) where
     pub written-length : length (written top bottom most old) ≡ length old
     written-length =
         rw (written-drawn, length-append, length-drop)
-        (omega (arith, layout-length top bottom ok, layout-fits top bottom ok (length old) (let-through (length old) e .1)))
+        (omega (arith, layout-fills top bottom ok, let-through (length old) e .1))
 
     -- its first w × (2t + 1) entries are a solution
     pub written-solution : Solution top bottom (width top bottom) (tracks top bottom)

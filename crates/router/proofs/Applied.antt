@@ -1,4 +1,4 @@
--- What the router's code goes by: every column's action fits its gap, the layout is a solution, and it fits the slice.
+-- What the router's code goes by: every column's action fits its gap, the layout is a solution, and its length is the slice length.
 use Prim.Native.Nat.{ℕ, _+_, _*_, _/_, _≤_}
 use mathlib.Core.Path.{_≡_}
 use mathlib.Core.Logic.{_⊎_, inl, inr}
@@ -10,12 +10,11 @@ use native.Mathlib.Decide.{ℕ-discrete}
 use lib.ListN.{length, getD}
 use Rattle.grid.specs.Channel.{tracks, rowsRefused}
 use Rattle.grid.proofs.Counting.{small-in}
-use Rattle.grid.proofs.Rows.{RowsFit, rows-fit, rows-short, pin-small}
-use Rattle.grid.proofs.OpenNets.{tracks-small}
+use Rattle.grid.proofs.Rows.{RowsFit, rows-fit, pin-small}
 use Rattle.sweep.specs.Drawing.{gap, moveAt}
 use Rattle.sweep.specs.Drawing as Drawing
 use Rattle.sweep.specs.Working.{nobody, topNet, bottomNet, endedNet}
-use Rattle.router.specs.Answers.{width, layout, sliceLength}
+use Rattle.router.specs.Answers.{width, layout, formulaLength, sliceLength}
 use Rattle.router.specs.Working.{EachFits}
 use Rattle.sweep.proofs.Solved.{Enough, tracks-enough, gaps, width-most}
 use Rattle.sweep.proofs.Solved as Solved
@@ -77,11 +76,12 @@ module _ (top bottom : List ℕ) (ok : rowsRefused top bottom 256 ≡ 0) where
   pub width-half : width top bottom ≤ length top + tracks top bottom / 2
   width-half = width-most (tracks top bottom) top bottom fit (tracks-enough top bottom)
 
-  -- and 511 at most
-  pub width-small : width top bottom ≤ 511
-  width-small = omega (arith, width-half, rows-short top bottom 256 ok, tracks-small top bottom)
-
-  -- A SLICE OF THE LENGTH ASKED FOR HOLDS THE LAYOUT
-  pub layout-fits : (lent : ℕ) → sliceLength top bottom ≤ lent → width top bottom * (2 * tracks top bottom + 1) ≤ lent
+  -- THE SLICE LENGTH IS THE LAYOUT'S
+  pub layout-fills : length (layout top bottom) ≡ sliceLength top bottom
   unfolding sliceLength
-  layout-fits lent p = omega (arith, mul-le-mul-right (2 * tracks top bottom + 1) width-half)
+  layout-fills = layout-length
+
+  -- and at most document 01's formula
+  pub within-formula : sliceLength top bottom ≤ formulaLength (length top) (tracks top bottom)
+  unfolding sliceLength
+  within-formula = mul-le-mul-right (2 * tracks top bottom + 1) width-half

@@ -9,6 +9,7 @@
 -- Steps    from one gap to the next, and the columns drawn so far
 -- Marking  the sets from one gap to the next
 -- Begin    the arrays and sets as the sweep begins, and as it ends
+-- Onward   from one net of a set to the next
 -- Added    the columns added after column n
 -- Calls    from the row check's answer to the calls' promises
 pub mod Arrays
@@ -21,5 +22,6 @@ pub mod Doubles
 pub mod Steps
 pub mod Marking
 pub mod Begin
+pub mod Onward
 pub mod Added
 pub mod Calls

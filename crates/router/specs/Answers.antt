@@ -58,11 +58,15 @@ module _ (top bottom : List ℕ) where
   abbrev pub layout : List ℕ
   layout = Drawing.layout (tracks top bottom) top bottom
 
+-- document 01, "(n + t/2 rounded down) × (2t + 1)": entries that are enough for n columns on t tracks, whatever their pins
+abbrev pub formulaLength : (n t : ℕ) → ℕ
+formulaLength n t = (n + t / 2) * (2 * t + 1)
+
 -- WHAT THEY ANSWER
 module _ (top bottom : List ℕ) where
-  -- "layout shorter than (n + t/2 rounded down) × (2t + 1)": the slice length that 8 calls for
+  -- document 02, Job 5, "the true one, w × (2t + 1) with the width that the sweep will reach": the slice length below which 8 is given
   unfoldable pub sliceLength : ℕ
-  sliceLength = (length top + tracks top bottom / 2) * (2 * tracks top bottom + 1)
+  sliceLength = width top bottom * (2 * tracks top bottom + 1)
 
   -- the call that states it
   unfoldable pub need : Length

@@ -27,7 +27,7 @@ pub record Case : Type 0 where
 abbrev case : (top bottom : List ℕ) (lent number d t w : ℕ) → Case
 case x y lent number d t w = record { top = x; bottom = y; lent = lent; number = number; figures = record { density = d; tracks = t; width = w } }
 
--- A to K; of J both channels, of D and K the slices of 15 and 14
+-- A to K, each with a slice of just the entries that it needs; of J both channels, of D and K the slices of 15 and 14
 unfoldable pub cases : List Case
 cases =
     case [] [] 0 0 0 0 0
@@ -36,7 +36,7 @@ cases =
     ∷ case (1 ∷ 2 ∷ []) (2 ∷ 1 ∷ []) 15 0 2 2 3
     ∷ case (1 ∷ 1 ∷ 0 ∷ []) (0 ∷ 2 ∷ 2 ∷ []) 9 0 1 1 3
     ∷ case (1 ∷ 1 ∷ 1 ∷ []) (0 ∷ 0 ∷ 0 ∷ []) 9 0 1 1 3
-    ∷ case (1 ∷ 1 ∷ 1 ∷ []) (2 ∷ 2 ∷ 2 ∷ []) 28 0 2 3 3
+    ∷ case (1 ∷ 1 ∷ 1 ∷ []) (2 ∷ 2 ∷ 2 ∷ []) 21 0 2 3 3
     ∷ case (1 ∷ 2 ∷ 1 ∷ []) (2 ∷ 1 ∷ 2 ∷ []) 28 0 2 3 4
     ∷ case (1 ∷ []) (0 ∷ []) 100 7 0 0 0
     ∷ case (257 ∷ 257 ∷ []) (0 ∷ 0 ∷ []) 100 6 0 0 0

@@ -233,9 +233,9 @@ pub record AtGap (top bottom last : List ℕ) (t : ℕ) (fam : Family) (c : ℕ)
   pub keeps : Keeps last t fam c (gap t top bottom c) a f low high number s w
   pub mated : Mated fam (state t top bottom c .mates) number mates l
 
--- the layout l, which was l₀, begins with the columns 1 to c of the sweep, each 2t + 1 entries
-pub record DrawnTo (top bottom : List ℕ) (t c : ℕ) (l₀ l : List ℕ) : Type 0 where
-  pub shows : l ≡ drawn t top bottom c ++ drop (c * (2 * t + 1)) l₀
+-- the layout l, which was l₀, begins with the columns 1 to c of the sweep, each 2t + 1 entries; in a dry run, where b is false, it is as it was
+pub record DrawnTo (b : Bool) (top bottom : List ℕ) (t c : ℕ) (l₀ l : List ℕ) : Type 0 where
+  pub shows : l ≡ pick b (drawn t top bottom c ++ drop (c * (2 * t + 1)) l₀) l₀
   pub sized : length (drawn t top bottom c) ≡ c * (2 * t + 1)
 
 -- arrays with nothing in them
@@ -245,11 +245,18 @@ blank = replicate 512 0
 unfoldable pub noNets : List ℕ
 noNets = replicate 257 0
 
+-- the members of s are net numbers, 1 to 256
+abbrev pub NetsOnly : List ℕ → Type 0
+NetsOnly s = (v : ℕ) → member s v ≡ true → (0 < v) × (v ≤ 256)
+
 -- s is the set of the nets with strands on the tracks g
 abbrev pub Remaining : List ℕ → List ℕ → Type 0
 Remaining g s = (v : ℕ) → member s v ≡ (not (eqb v 0) && remains g v)
 
+-- the layout l with a column written from entry `at` on: its action x, and the tracks tr that leave it
+abbrev pub withColumn : (t at : ℕ) (x : Action) (tr l : List ℕ) → List ℕ
+withColumn t at x tr l = take at l ++ ((verticals t x ++ tr) ++ drop (at + (2 * t + 1)) l)
+
 -- the layout l with the column that joins net v on the tracks tr written as column w + 1
 unfoldable pub withJoining : ℕ → List ℕ → ℕ → ℕ → List ℕ → List ℕ
-withJoining t tr v w l =
-    take (w * (2 * t + 1)) l ++ ((verticals t (joining tr v) ++ clear v tr) ++ drop (w * (2 * t + 1) + (2 * t + 1)) l)
+withJoining t tr v w l = withColumn t (w * (2 * t + 1)) (joining tr v) (clear v tr) l

@@ -10,10 +10,11 @@ ghost use Prim.Native.Nat.{_+_, _*_, _<_, _≤_};
 ghost use lib.ListN.{length, take, drop};
 ghost use mathlib.Core.List.{_++_};
 ghost use Rattle.grid.specs.Channel.{count};
+ghost use Rattle.sets.specs.Member.{member};
 ghost use Rattle.sweep.specs.Tracks.{clear};
 ghost use Rattle.sweep.specs.Rules.{act, noTrack};
 ghost use Rattle.sweep.specs.Drawing.{remains, added};
-ghost use Rattle.router.specs.Working.{tracksIn, Holds, Remaining, withJoining};
+ghost use Rattle.router.specs.Working.{tracksIn, Holds, NetsOnly, Remaining, withJoining};
 
 // The action that joins the strands of a net, from the lowest to the highest, and nothing else.
 fn joining(v: u16, low: u16, high: u16) -> Action
@@ -53,9 +54,21 @@ fn join_net(
     let i = v as usize;
     let x = joining(v, low[i], high[i]);
     index::drop_net(tracks, free, low, high, many, t, v);
-    let each = 2 * t + 1;
-    let at = w * each;
-    writer::write_column(&mut layout[at..at + each], tracks, t, x);
+    writer::write_at(layout, w * (2 * t + 1), tracks, t, x);
+}
+
+// How many columns there are to add: one for each net of the set.
+pub(crate) fn columns_to_add(extended: &[u64; 8]) -> usize
+    requires { ⌜ NetsOnly (now extended) ⌝ }
+    ensures { λ r. ⌜ r ≡ count (member (now (extended .entry))) 256 ⌝ }
+{
+    let mut k = 0;
+    let mut v = nets::lowest_net(extended);
+    while v != 0 {
+        k += 1;
+        v = nets::next_net(extended, v);
+    }
+    k
 }
 
 // Adds a column for each net that still has strands, lowest number first; n columns are drawn. The answer is the width.

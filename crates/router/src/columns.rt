@@ -10,10 +10,11 @@ ghost use mathlib.Core.Path.{_≡_};
 ghost use mathlib.Core.Bool.{true};
 ghost use Prim.Native.Nat.{_+_, _*_, _<_, _≤_};
 ghost use lib.ListN.{length, getD};
+ghost use Rattle.grid.specs.Channel.{pick};
 ghost use Rattle.sweep.specs.Tracks.{after};
 ghost use Rattle.sweep.specs.Drawing.{moveAt, matesAfter};
 ghost use Rattle.router.specs.Working.{tracksIn, RowsAndLasts, Ready, Fitting, FitsAt, EachFits, Keeps, Mated, AtGap, DrawnTo};
-ghost use Rattle.router.specs.Working.{forms, OthersTold, PairsSettled};
+ghost use Rattle.router.specs.Working.{forms, OthersTold, PairsSettled, withColumn};
 
 // Whether pairs of nets are formed in the sweep of a family.
 fn forms_pairs(family: Family) -> bool
@@ -175,7 +176,25 @@ pub(crate) fn advance(
     x.action
 }
 
-// Draws the columns 1 to n.
+// Draws a column into its part of the layout, which begins at `at`; in a dry run nothing.
+fn draw_column(
+    layout: &mut [u16],
+    at: usize,
+    tracks: &[u16; 512],
+    t: usize,
+    x: Action,
+    drawing: bool,
+)
+    requires { ⌜ (t ≤ 511) × (length (now tracks) ≡ 512) × (drawing ≡ true → at + (2 * t + 1) ≤ length (now layout)) ⌝ }
+    ensures { λ _. ⌜ now (layout .exit) ≡ pick drawing (withColumn t at x (tracksIn t (now (tracks .entry))) (now (layout .entry)))
+        (now (layout .entry)) ⌝ }
+{
+    if drawing {
+        writer::write_at(layout, at, tracks, t, x);
+    }
+}
+
+// Goes over the columns 1 to n and draws them; in a dry run nothing is drawn.
 pub(crate) fn sweep_columns(
     top: &[u16],
     bottom: &[u16],
@@ -193,16 +212,17 @@ pub(crate) fn sweep_columns(
     lone: &mut [u64; 8],
     t: usize,
     family: Family,
+    drawing: bool,
 )
     requires { ⌜ Ready (now top) (now bottom) (now first) (now last) t family ⌝ }
     requires { ⌜ EachFits t (now top) (now bottom) ⌝ }
     requires { ⌜ AtGap (now top) (now bottom) (now last) t family 0 (now tracks) (now free) (now low) (now high) (now many) (now extended) (now wide)
         (now mates) (now lone) ⌝ }
-    requires { ⌜ length (now top) * (2 * t + 1) ≤ length (now layout) ⌝ }
+    requires { ⌜ (drawing ≡ true → length (now top) * (2 * t + 1) ≤ length (now layout)) ⌝ }
     ensures { λ _. ⌜ AtGap (now (top .entry)) (now (bottom .entry)) (now (last .entry)) t family (length (now (top .entry))) (now (tracks .exit))
         (now (free .exit)) (now (low .exit)) (now (high .exit)) (now (many .exit)) (now (extended .exit)) (now (wide .exit)) (now (mates .exit))
         (now (lone .exit)) ⌝ }
-    ensures { λ _. ⌜ DrawnTo (now (top .entry)) (now (bottom .entry)) t (length (now (top .entry))) (now (layout .entry)) (now (layout .exit)) ⌝ }
+    ensures { λ _. ⌜ DrawnTo drawing (now (top .entry)) (now (bottom .entry)) t (length (now (top .entry))) (now (layout .entry)) (now (layout .exit)) ⌝ }
 {
     let each = 2 * t + 1;
     let mut i = 0;
@@ -226,7 +246,7 @@ pub(crate) fn sweep_columns(
             t,
             family,
         );
-        writer::write_column(&mut layout[at..at + each], tracks, t, x);
+        draw_column(layout, at, tracks, t, x, drawing);
         at += each;
         i += 1;
     }

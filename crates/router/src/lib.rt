@@ -11,16 +11,18 @@ mod writer;
 use grid::Family;
 use grid::RowCheck;
 ghost use mathlib.Core.Path.{_≡_};
+ghost use mathlib.Core.Bool.{true};
 ghost use Prim.Native.Nat.{_+_, _*_, _/_, _-_, _≤_};
+ghost use lib.Dec.{ltb};
 ghost use lib.ListN.{length, drop};
 ghost use mathlib.Core.List.{_++_};
-ghost use Rattle.grid.specs.Channel.{tracksOf, rowsRefused};
+ghost use Rattle.grid.specs.Channel.{pick, tracksOf, rowsRefused};
 ghost use Rattle.grid.specs.Refusals.{ifAccepted};
 ghost use Rattle.router.specs.Promise.{Solves};
 ghost use Rattle.sweep.specs.Drawing.{width};
 ghost use Rattle.sweep.specs.Drawing.{layout as layoutOf};
 ghost use Rattle.router.specs.Answers.{numberOf, figuresOf, noFigures, lengthNumberOf, entriesOf};
-ghost use Rattle.router.specs.Answers.{sliceLength, need as needOf, refused, figures as figuresBy, answer, written};
+ghost use Rattle.router.specs.Answers.{formulaLength, sliceLength, need as needOf, refused, figures as figuresBy, answer, written};
 ghost use Rattle.router.specs.Working.{Ready, EachFits, blank, noNets};
 
 // The figures of a drawn channel.
@@ -55,8 +57,8 @@ fn no_nets() -> [u16; 257]
     [0u16; 257]
 }
 
-// Draws a channel; the answer is the width.
-fn draw(
+// Sweeps over a channel and draws it; in a dry run nothing is drawn. The answer is the width.
+fn sweep_channel(
     top: &[u16],
     bottom: &[u16],
     layout: &mut [u16],
@@ -64,12 +66,15 @@ fn draw(
     last: &[u16; 257],
     t: usize,
     family: Family,
+    drawing: bool,
 ) -> usize
     requires { ⌜ Ready (now top) (now bottom) (now first) (now last) t family ⌝ }
     requires { ⌜ EachFits t (now top) (now bottom) ⌝ }
-    requires { ⌜ (width t (now top) (now bottom) ≤ 511) × (width t (now top) (now bottom) * (2 * t + 1) ≤ length (now layout)) ⌝ }
+    requires { ⌜ width t (now top) (now bottom) ≤ length (now top) + t / 2 ⌝ }
+    requires { ⌜ (drawing ≡ true → width t (now top) (now bottom) * (2 * t + 1) ≤ length (now layout)) ⌝ }
     ensures { λ r. ⌜ r ≡ width t (now (top .entry)) (now (bottom .entry)) ⌝ }
-    ensures { λ r. ⌜ now (layout .exit) ≡ layoutOf t (now (top .entry)) (now (bottom .entry)) ++ drop (r * (2 * t + 1)) (now (layout .entry)) ⌝ }
+    ensures { λ r. ⌜ now (layout .exit) ≡ pick drawing (layoutOf t (now (top .entry)) (now (bottom .entry)) ++ drop (r * (2 * t + 1)) (now (layout .entry)))
+        (now (layout .entry)) ⌝ }
 {
     let mut tracks = no_tracks();
     let mut free = index::all_free(t);
@@ -80,7 +85,6 @@ fn draw(
     let mut wide = sets::empty();
     let mut mates = no_nets();
     let mut lone = sets::empty();
-    let n = top.len();
     columns::sweep_columns(
         top,
         bottom,
@@ -98,18 +102,24 @@ fn draw(
         &mut lone,
         t,
         family,
+        drawing,
     );
-    added::finish(
-        layout,
-        &mut tracks,
-        &mut free,
-        &mut low,
-        &mut high,
-        &mut many,
-        &extended,
-        t,
-        n,
-    )
+    let n = top.len();
+    if drawing {
+        return added::finish(
+            layout,
+            &mut tracks,
+            &mut free,
+            &mut low,
+            &mut high,
+            &mut many,
+            &extended,
+            t,
+            n,
+        );
+    }
+    let k = added::columns_to_add(&extended);
+    n + k
 }
 
 // The tracks of a channel of density d.
@@ -130,26 +140,72 @@ fn less_one(n: usize) -> usize
     if n == 0 { 0 } else { n - 1 }
 }
 
-// The slice length for n columns and t tracks.
-fn entries(n: usize, t: usize) -> usize
+// Document 01's slice length for n columns on t tracks.
+fn formula_length(n: usize, t: usize) -> usize
     requires { ⌜ (n ≤ 256) × (t ≤ 511) ⌝ }
-    ensures { λ r. ⌜ r ≡ (n + t / 2) * (2 * t + 1) ⌝ }
+    ensures { λ r. ⌜ r ≡ formulaLength n t ⌝ }
 {
     (n + t / 2) * (2 * t + 1)
 }
 
-// The slice length that a routing call wants for a channel.
+// The slice length that the drawing of a channel takes, by a dry run.
+fn slice_length(
+    top: &[u16],
+    bottom: &[u16],
+    first: &[u16; 257],
+    last: &[u16; 257],
+    t: usize,
+    family: Family,
+) -> usize
+    requires { ⌜ Ready (now top) (now bottom) (now first) (now last) t family ⌝ }
+    requires { ⌜ EachFits t (now top) (now bottom) ⌝ }
+    requires { ⌜ width t (now top) (now bottom) ≤ length (now top) + t / 2 ⌝ }
+    ensures { λ r. ⌜ r ≡ width t (now (top .entry)) (now (bottom .entry)) * (2 * t + 1) ⌝ }
+{
+    let mut nothing = [0u16; 1];
+    let w = sweep_channel(top, bottom, &mut nothing, first, last, t, family, false);
+    w * (2 * t + 1)
+}
+
+// Whether a slice of `lent` entries is too short for the drawing. One of the formula's length never is, and costs no dry run.
+fn is_short(
+    lent: usize,
+    top: &[u16],
+    bottom: &[u16],
+    first: &[u16; 257],
+    last: &[u16; 257],
+    t: usize,
+    family: Family,
+) -> bool
+    requires { ⌜ Ready (now top) (now bottom) (now first) (now last) t family ⌝ }
+    requires { ⌜ EachFits t (now top) (now bottom) ⌝ }
+    requires { ⌜ width t (now top) (now bottom) ≤ length (now top) + t / 2 ⌝ }
+    ensures { λ r. ⌜ r ≡ ltb lent (width t (now (top .entry)) (now (bottom .entry)) * (2 * t + 1)) ⌝ }
+{
+    let enough = formula_length(top.len(), t);
+    if enough <= lent {
+        return false;
+    }
+    let needed = slice_length(top, bottom, first, last, t, family);
+    lent < needed
+}
+
+// The slice length that a routing call needs for a channel.
 pub fn need(top: &[u16], bottom: &[u16]) -> Length
     ensures answer { λ r. ⌜ r ≡ needOf (now (top .entry)) (now (bottom .entry)) ⌝ }
     ensures number { λ r. ⌜ lengthNumberOf r ≡ rowsRefused (now (top .entry)) (now (bottom .entry)) 256 ⌝ }
     ensures entries { λ r. ⌜ entriesOf r ≡ ifAccepted (lengthNumberOf r) (sliceLength (now (top .entry)) (now (bottom .entry))) 0 ⌝ }
 {
-    let r = grid::check_rows(top, bottom, 256);
+    let mut first = no_nets();
+    let mut last = no_nets();
+    let mut pins = no_nets();
+    let r = grid::net_facts(top, bottom, 256, &mut first, &mut last, &mut pins);
     let RowCheck::Fit(s) = r else {
         return Length::Refused(grid::number_of(r));
     };
     let family = s.family;
-    Length::Entries(entries(s.columns, tracks_of(family, s.density)))
+    let t = tracks_of(family, s.density);
+    Length::Entries(slice_length(top, bottom, &first, &last, t, family))
 }
 
 // Routes a channel: its drawing goes to the front of the layout, and what stands behind it stays. A refused call leaves the layout as it is. `most` is
@@ -170,15 +226,16 @@ pub fn route_within(top: &[u16], bottom: &[u16], most: usize, layout: &mut [u16]
     };
     let family = s.family;
     let t = tracks_of(family, s.density);
-    if layout.len() < entries(s.columns, t) {
+    if is_short(layout.len(), top, bottom, &first, &last, t, family) {
         return Routed::Refused(8);
     }
-    let w = draw(top, bottom, layout, &first, &last, t, family);
-    Routed::Drawn(Figures {
+    let w = sweep_channel(top, bottom, layout, &first, &last, t, family, true);
+    let figures = Figures {
         density: s.density,
         tracks: t,
         width: w,
-    })
+    };
+    Routed::Drawn(figures)
 }
 
 // Routes a channel of up to 256 columns.

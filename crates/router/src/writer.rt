@@ -8,7 +8,7 @@ ghost use lib.ListN.{length, take, drop};
 ghost use mathlib.Core.List.{_++_};
 ghost use Rattle.grid.specs.Segments.{segment};
 ghost use Rattle.sweep.specs.Tracks.{valuesFrom, verticals};
-ghost use Rattle.router.specs.Working.{tracksIn, isFlat, runs, twoRuns};
+ghost use Rattle.router.specs.Working.{tracksIn, isFlat, runs, twoRuns, withColumn};
 
 // The vertical edge between the rows k and k + 1: of net q below row a, of net m from there to row b, of net p above.
 fn vertical_at(k: u16, q: u16, a: u16, m: u16, b: u16, p: u16) -> u16
@@ -124,10 +124,19 @@ fn copy_tracks(part: &mut [u16], tracks: &[u16; 512], t: usize)
 }
 
 // Writes a column: its vertical edges, and the tracks that leave it.
-pub(crate) fn write_column(part: &mut [u16], tracks: &[u16; 512], t: usize, x: Action)
+fn write_column(part: &mut [u16], tracks: &[u16; 512], t: usize, x: Action)
     requires { ⌜ (t ≤ 511) × (length (now part) ≡ 2 * t + 1) × (length (now tracks) ≡ 512) ⌝ }
     ensures { λ _. ⌜ now (part .exit) ≡ verticals t x ++ tracksIn t (now (tracks .entry)) ⌝ }
 {
     write_verticals(part, t, x);
     copy_tracks(part, tracks, t);
+}
+
+// Writes a column into its part of a layout, which begins at `at`.
+pub(crate) fn write_at(layout: &mut [u16], at: usize, tracks: &[u16; 512], t: usize, x: Action)
+    requires { ⌜ (t ≤ 511) × (length (now tracks) ≡ 512) × (at + (2 * t + 1) ≤ length (now layout)) ⌝ }
+    ensures { λ _. ⌜ now (layout .exit) ≡ withColumn t at x (tracksIn t (now (tracks .entry))) (now (layout .entry)) ⌝ }
+{
+    let each = 2 * t + 1;
+    write_column(&mut layout[at..at + each], tracks, t, x);
 }

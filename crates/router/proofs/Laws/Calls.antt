@@ -1,10 +1,11 @@
 -- From the row check's answer and the facts of each net to what the sweep goes by, and from what it leaves to the calls' promises.
 use Prim.Native.Nat.{ℕ, zero, suc, _+_, _*_, _/_, _≤_, _<_}
 use mathlib.Core.Path.{_≡_, refl, sym, ap, subst, _∙_}
-use mathlib.Core.Bool.{not, _&&_}
+use mathlib.Core.Bool.{Bool, true, false, not, _&&_}
 use mathlib.Core.Logic.{_≢_}
 use mathlib.Core.List.{List, _++_}
 use Rattle.grid.proofs.Views.{product-le}
+use native.Mathlib.Nat.{mul-le-mul-right}
 use native.Mathlib.Omega.{arith}
 use lib.Dec.{eqb, ltb, leb}
 use lib.ListN.{length, drop, getD}
@@ -13,7 +14,7 @@ use Rattle.grid.specs.Channel.{times, pins, left, density, family, tracksOf, tr
 use Rattle.grid.specs.Nets.{firstColumn, lastColumn, table}
 use Rattle.grid.specs.Refusals.{ifAccepted}
 use Rattle.grid.specs.Answers.{refusedWithin}
-use Rattle.grid.proofs.Tests.{ne-eqb, le-ltb}
+use Rattle.grid.proofs.Tests.{ne-eqb, le-ltb, ltb-true, ltb-false}
 use Rattle.grid.proofs.Answers.{accepted, accepted-new}
 use Rattle.grid.proofs.Rows.{RowsFit, rows-fit, rows-short}
 use Rattle.grid.proofs.Counting.{small-in}
@@ -27,11 +28,11 @@ use Rattle.router.specs.declared.Length.{Length}
 use Rattle.router.specs.declared.Length.the-variants as stated
 use Rattle.sweep.specs.Drawing
 use Rattle.router.specs.Answers.{numberOf, figuresOf, noFigures, lengthNumberOf, entriesOf, routedBy}
-use Rattle.router.specs.Answers.{width, layout, sliceLength, need, refused, figures, answer, written}
+use Rattle.router.specs.Answers.{width, layout, formulaLength, sliceLength, need, refused, figures, answer, written}
 use Rattle.router.specs.Promise.{Solves}
 use Rattle.router.specs.Working.{Spans, Ready, EachFits}
 use Rattle.sweep.proofs.Solved.{tracks-enough}
-use Rattle.router.proofs.Applied.{column-fits, layout-length}
+use Rattle.router.proofs.Applied.{column-fits, layout-length, width-half}
 use Rattle.router.proofs.Answered.{need-promise, answer-promise, passes, refuses, too-short, written-refused, written-drawn, written-solution}
 
 -- ---- what the sweep goes by
@@ -60,7 +61,7 @@ module _ (top bottom : List ℕ) (ok : rowsRefused top bottom 256 ≡ 0) where
           rw (ne-eqb (suc v) 0 (λ e. omega arith), table-at (lastColumn top bottom) (suc v) (omega arith) b) (goes-on top bottom (suc v) (λ e. omega arith) (fit .same) c)
 
   -- what the sweep goes by, from the figures that the row check found
-  pub ready : {t : ℕ} {p : Family} {first last : List ℕ} → t ≡ tracks top bottom → p ≡ family top bottom → first ≡ table (firstColumn top bottom) → last ≡ table (lastColumn top bottom)
+  ready : {t : ℕ} {p : Family} {first last : List ℕ} → t ≡ tracks top bottom → p ≡ family top bottom → first ≡ table (firstColumn top bottom) → last ≡ table (lastColumn top bottom)
       → Ready top bottom first last t p
   ready {t} {p} {first} {last} et ep ef el =
       record {
@@ -77,8 +78,17 @@ module _ (top bottom : List ℕ) (ok : rowsRefused top bottom 256 ≡ 0) where
       none v h = unfold pins in fit .small v h
 
   -- on the channel's tracks each column's action fits
-  pub each-fits : {t : ℕ} → t ≡ tracks top bottom → EachFits t top bottom
+  each-fits : {t : ℕ} → t ≡ tracks top bottom → EachFits t top bottom
   each-fits {t} e = rw e (column-fits (tracks top bottom) top bottom fit (tracks-enough top bottom))
+
+  -- and half of them at most are added as columns
+  added-half : {t : ℕ} → t ≡ tracks top bottom → Drawing.width t top bottom ≤ length top + t / 2
+  added-half {t} e = rw e (width-half top bottom ok)
+
+  -- what the sweep, dry or drawn, asks for
+  pub sweep-ready : {t : ℕ} {p : Family} {first last : List ℕ} → t ≡ tracks top bottom → p ≡ family top bottom → first ≡ table (firstColumn top bottom) → last ≡ table (lastColumn top bottom)
+      → Ready top bottom first last t p × (EachFits t top bottom × (Drawing.width t top bottom ≤ length top + t / 2))
+  sweep-ready et ep ef el = (ready et ep ef el, (each-fits et, added-half et))
 
 -- ---- the calls' promises
 
@@ -88,6 +98,18 @@ module _ (top bottom : List ℕ) where
   unfolding tracks
   tracks-by d t p ed ep et = cc
 
+  -- the slice length by the tracks
+  length-by : (t m : ℕ) → t ≡ tracks top bottom → m ≡ Drawing.width t top bottom * (2 * t + 1) → m ≡ sliceLength top bottom
+  unfolding sliceLength
+  length-by t m et em = cc
+
+  -- the test of a slice: it is too short, or long enough
+  pub short-by : (t lent : ℕ) (b : Bool) → t ≡ tracks top bottom → b ≡ ltb lent (Drawing.width t top bottom * (2 * t + 1)) → b ≡ true → lent < sliceLength top bottom
+  short-by t lent b et e h = subst (λ (m : ℕ). lent < m) (length-by t _ et refl) (ltb-true lent _ (sym e ∙ h))
+
+  pub long-by : (t lent : ℕ) (b : Bool) → b ≡ ltb lent (Drawing.width t top bottom * (2 * t + 1)) → b ≡ false → Drawing.width t top bottom * (2 * t + 1) ≤ lent
+  long-by t lent b e h = ltb-false lent _ (sym e ∙ h)
+
   -- the length call refuses what the rows refuse
   pub need-refused : (k : ℕ) → rowsRefused top bottom 256 ≡ k → k ≢ 0 → stated.Refused k ≡ need top bottom
   unfolding need
@@ -95,9 +117,9 @@ module _ (top bottom : List ℕ) where
   need-refused (suc k) e n = sym (rw e refl)
 
   -- and else states the slice length
-  pub need-stated : (n t m : ℕ) → rowsRefused top bottom 256 ≡ 0 → n ≡ length top → t ≡ tracks top bottom → m ≡ (n + t / 2) * (2 * t + 1) → stated.Entries m ≡ need top bottom
-  unfolding need sliceLength
-  need-stated n t m e en et em = rw (e, em, en, et) refl
+  pub need-stated : (t m : ℕ) → rowsRefused top bottom 256 ≡ 0 → t ≡ tracks top bottom → m ≡ Drawing.width t top bottom * (2 * t + 1) → stated.Entries m ≡ need top bottom
+  unfolding need
+  need-stated t m e et em = rw (e, length-by t m et em) refl
 
   -- all that it promises, by its answer
   pub need-promised : (r : Length) → r ≡ need top bottom
@@ -152,22 +174,21 @@ module _ (top bottom : List ℕ) (most : ℕ) where
         (answer-by (length old) 8 q, sym (written-refused top bottom most old (λ z. omega arith)))
 
     -- a channel that is drawn
-    pub channel-drawn : (new : List ℕ) (d t w : ℕ) → refusedWithin top bottom most ≡ 0 → sliceLength top bottom ≤ length old → d ≡ density top bottom → t ≡ tracks top bottom → w ≡ Drawing.width t top bottom
+    pub channel-drawn : (new : List ℕ) (d t w : ℕ) → refusedWithin top bottom most ≡ 0 → Drawing.width t top bottom * (2 * t + 1) ≤ length old → d ≡ density top bottom → t ≡ tracks top bottom → w ≡ Drawing.width t top bottom
         → new ≡ Drawing.layout t top bottom ++ drop (w * (2 * t + 1)) old
         → (routed.Drawn (record { density = d; tracks = t; width = w }) ≡ answer top bottom most (length old)) × (new ≡ written top bottom most old)
     unfolding figures
     channel-drawn new d t w e h ed et v n =
         let ew : w ≡ width top bottom = v ∙ ap (λ (k : ℕ). Drawing.width k top bottom) et in
         let en : new ≡ layout top bottom ++ drop (w * (2 * t + 1)) old = n ∙ ap (λ (k : ℕ). Drawing.layout k top bottom ++ drop (w * (2 * t + 1)) old) et in
-        let q : refused top bottom most (length old) ≡ 0 = passes top bottom most (length old) e h in
+        let q : refused top bottom most (length old) ≡ 0 = passes top bottom most (length old) e (subst (λ (m : ℕ). m ≤ length old) (length-by top bottom t _ et refl) h) in
         let s : w * (2 * t + 1) ≡ length (layout top bottom) = cc (layout-length top bottom (accepted top bottom most e)) in
         (cc (answer-by (length old) 0 q), en ∙ ap (λ (z : ℕ). layout top bottom ++ drop z old) s ∙ sym (written-drawn top bottom most old q))
 
--- the slice length by the row check's figures
-pub length-by : (top bottom : List ℕ) (n t m : ℕ) → n ≡ length top → t ≡ tracks top bottom → m ≡ (n + t / 2) * (2 * t + 1) → m ≡ sliceLength top bottom
-unfolding sliceLength
-length-by top bottom n t m en et em = cc
+-- a slice of the formula's length holds the drawing, whose width is n and half the tracks at most
+pub formula-enough : (top bottom : List ℕ) (t lent : ℕ) → Drawing.width t top bottom ≤ length top + t / 2 → formulaLength (length top) t ≤ lent → Drawing.width t top bottom * (2 * t + 1) ≤ lent
+formula-enough top bottom t lent h p = omega (arith, mul-le-mul-right (2 * t + 1) h)
 
--- no slice length passes 511 columns of 1023 entries
-pub area : (n t : ℕ) → n ≤ 256 → t ≤ 511 → (n + t / 2) * (2 * t + 1) ≤ 522753
-area n t h k = product-le (n + t / 2) (2 * t + 1) (omega arith) (omega arith)
+-- a drawing has 511 columns of 1023 entries at most
+pub area : (w t : ℕ) → w ≤ 511 → t ≤ 511 → w * (2 * t + 1) ≤ 522753
+area w t h k = product-le w (2 * t + 1) (omega arith) (omega arith)

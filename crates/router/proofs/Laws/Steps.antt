@@ -1,27 +1,34 @@
 -- From one gap to the next, and the columns drawn so far.
 use Prim.Native.Nat.{ℕ, suc, _+_, _-_, _*_, _≤_, _<_}
 use mathlib.Core.Path.{_≡_, refl, sym, ap, subst, _∙_}
-use mathlib.Core.Bool.{true}
+use mathlib.Core.Bool.{Bool, true, false}
 use mathlib.Core.List.{List, _++_, append-assoc}
 use native.Mathlib.Nat.{zero-mul, suc-mul, mul-le-mul-right, add-sub-cancel-left}
 use native.Mathlib.Numerals.{add-one}
 use native.Mathlib.Omega.{arith}
-use lib.ListN.{length, take, drop, length-append, length-take, length-drop}
+use lib.ListN.{length, take, drop, length-append}
 use lib.Seq.{take-at, drop-at, drop-drop}
+use Rattle.grid.proofs.Views.{product-le}
 use Rattle.grid.specs.declared.Family.{Family}
 use Rattle.grid.specs.declared.Family.the-variants.{TwoPin, ThreePin, ManyPin}
-use Rattle.grid.specs.Channel.{family}
+use Rattle.grid.specs.Channel.{pick, family}
+use Rattle.grid.proofs.Tests.{not-both}
 use Rattle.sweep.specs.declared.Action.{Action}
 use Rattle.sweep.specs.declared.Move.{Move}
 use Rattle.sweep.specs.Tracks.{after, verticals}
 use Rattle.sweep.specs.Drawing
 use Rattle.sweep.specs.Drawing.{moveOf, move, matesAfter, state, gap, moveAt, drawn}
-use Rattle.router.specs.Working.{tracksIn, Holds, RowsAndLasts, Ready, Fitting, FitsAt, Keeps, Mated, forms, AtGap, DrawnTo}
-use Rattle.router.proofs.Laws.Arrays.{own}
+use Rattle.router.specs.Working.{tracksIn, Holds, RowsAndLasts, Ready, Fitting, FitsAt, Keeps, Mated, forms, AtGap, DrawnTo, withColumn}
+use Rattle.sweep.proofs.Columns.Entries.{verticals-length}
+use Rattle.router.proofs.Laws.Arrays.{own, length-tracks}
 
 -- one column more fits
 pub fits-next : (n i each : ℕ) → i < n → i * each + each ≤ n * each
 fits-next n i each h = subst (λ (x : ℕ). x ≤ n * each) (suc-mul i each) (mul-le-mul-right each h)
+
+-- and the columns are few
+pub columns-small : (n i t : ℕ) → i < n → n ≤ 256 → t ≤ 511 → i * (2 * t + 1) + (2 * t + 1) ≤ 522753
+columns-small n i t h b k = omega (arith, fits-next n i (2 * t + 1) h, product-le n (2 * t + 1) (omega arith) (omega arith))
 
 -- where the next column begins
 pub at-next : (at i each : ℕ) → at ≡ i * each → at + each ≡ (i + 1) * each
@@ -82,10 +89,6 @@ module _ (top bottom : List ℕ) (c : ℕ) (x : Move) {last : List ℕ} {t : ℕ
     };
   }
 
--- a column's part of the layout
-pub part-length : (l : List ℕ) (at each : ℕ) → at + each ≤ length l → length (take (at + each - at) (drop at l)) ≡ each
-part-length l at each h = simp (length-take, length-drop) (omega arith)
-
 -- one column more is drawn
 drawn-suc : (t : ℕ) (top bottom : List ℕ) (i : ℕ) → drawn t top bottom (i + 1) ≡ drawn t top bottom i ++ (verticals t (moveAt t top bottom i .action) ++ gap t top bottom (i + 1))
 unfolding drawn
@@ -105,32 +108,59 @@ length-next t top bottom i each ys e f g = ap length g ∙ length-append (drawn 
 
 -- the layout then
 layout-next : (t : ℕ) (top bottom l₀ l ys : List ℕ) (i at each : ℕ) → at ≡ i * each → l ≡ drawn t top bottom i ++ drop (i * each) l₀ → length (drawn t top bottom i) ≡ i * each
-    → drawn t top bottom (i + 1) ≡ drawn t top bottom i ++ ys
-    → take at l ++ (ys ++ drop (at + each - at) (drop at l)) ≡ drawn t top bottom (i + 1) ++ drop ((i + 1) * each) l₀
-layout-next t top bottom l₀ l ys i at each ea el en ed =
+    → drawn t top bottom (i + 1) ≡ drawn t top bottom i ++ ys → take at l ++ (ys ++ drop (at + each) l) ≡ drawn t top bottom (i + 1) ++ drop ((i + 1) * each) l₀
+layout-next t top bottom l₀ l ys i at each ea el ln ed =
     let D : List ℕ = drawn t top bottom i in
     let R : List ℕ = drop (i * each) l₀ in
-    let len : length D ≡ at = en ∙ sym ea in
+    let len : length D ≡ at = ln ∙ sym ea in
     let t1 : take at l ≡ D = ap (take at) el ∙ take-at D R at len in
     let d1 : drop at l ≡ R = ap (drop at) el ∙ drop-at D R at len in
-    let n1 : at + each - at ≡ each = add-sub-cancel-left at each in
     let r1 : drop each R ≡ drop ((i + 1) * each) l₀ = drop-drop each (i * each) l₀ ∙ ap (λ (z : ℕ). drop z l₀) (ap (λ (z : ℕ). z + each) (sym ea) ∙ at-next at i each ea) in
-    let whole : take at l ++ (ys ++ drop (at + each - at) (drop at l)) ≡ D ++ (ys ++ drop ((i + 1) * each) l₀) = cc in
+    let r2 : drop (at + each) l ≡ drop ((i + 1) * each) l₀ = sym (drop-drop each at l) ∙ ap (drop each) d1 ∙ r1 in
+    let whole : take at l ++ (ys ++ drop (at + each) l) ≡ D ++ (ys ++ drop ((i + 1) * each) l₀) = cc in
     whole ∙ sym (append-assoc D ys (drop ((i + 1) * each) l₀)) ∙ ap (λ (z : List ℕ). z ++ drop ((i + 1) * each) l₀) (sym ed)
 
--- nothing is drawn yet
-pub none-drawn : (top bottom : List ℕ) (t : ℕ) (l : List ℕ) → DrawnTo top bottom t 0 l l
-unfolding drawn
-none-drawn top bottom t l = record { shows = rw zero-mul; sized = sym (zero-mul (2 * t + 1)) }
+-- the writer's part of the layout is the column
+pub part-written : (t at : ℕ) (x : Action) (tr l ys : List ℕ) → ys ≡ verticals t x ++ tr → take at l ++ (ys ++ drop (at + (2 * t + 1) - at) (drop at l)) ≡ withColumn t at x tr l
+part-written t at x tr l ys e =
+    let k : at + (2 * t + 1) - at ≡ 2 * t + 1 = add-sub-cancel-left at (2 * t + 1) in
+    let d : drop (2 * t + 1) (drop at l) ≡ drop (at + (2 * t + 1)) l = drop-drop (2 * t + 1) at l in
+    cc
 
--- one column more
-pub drawn-next : (top bottom l₀ l ys : List ℕ) (i at : ℕ) (x : Action) {t : ℕ} {a f low high n : List ℕ} → at ≡ i * (2 * t + 1)
-    → DrawnTo top bottom t i l₀ l → x ≡ moveAt t top bottom i .action → Holds t (gap t top bottom (i + 1)) a f low high n
-    → ys ≡ verticals t x ++ tracksIn t a → length ys ≡ 2 * t + 1
-    → DrawnTo top bottom t (i + 1) l₀ (take at l ++ (ys ++ drop (at + (2 * t + 1) - at) (drop at l)))
-drawn-next top bottom l₀ l ys i at x {t} ea D ex h ey en =
-    let d = column-next top bottom i x ys ex h ey in
-    record {
-      shows = layout-next t top bottom l₀ l ys i at (2 * t + 1) ea (D .shows) (D .sized) d;
-      sized = length-next t top bottom i (2 * t + 1) ys (D .sized) en d;
-    }
+-- a column that is drawn, and one that is not
+pub column-drawn : (b : Bool) (x y l : List ℕ) → b ≡ true → l ≡ x → l ≡ pick b x y
+column-drawn true x y l z e = e
+column-drawn false x y l z e = absurd (not-both z refl)
+
+pub column-dry : (b : Bool) (x y : List ℕ) → b ≡ false → y ≡ pick b x y
+column-dry true x y z = absurd (not-both refl z)
+column-dry false x y z = refl
+
+-- nothing is drawn yet
+pub none-drawn : (b : Bool) (top bottom : List ℕ) (t : ℕ) (l : List ℕ) → DrawnTo b top bottom t 0 l l
+unfolding drawn
+none-drawn b top bottom t l = record { shows = go b; sized = sym (zero-mul (2 * t + 1)) }
+  where
+    go : (b : Bool) → l ≡ pick b (drawn t top bottom 0 ++ drop (0 * (2 * t + 1)) l) l
+    go true = rw zero-mul
+    go false = refl
+
+-- one column more, drawn or not
+pub drawn-next : (b : Bool) (top bottom l₀ l l′ : List ℕ) (i at : ℕ) (x : Action) {t : ℕ} {a f low high n : List ℕ} → at ≡ i * (2 * t + 1)
+    → DrawnTo b top bottom t i l₀ l → x ≡ moveAt t top bottom i .action → Holds t (gap t top bottom (i + 1)) a f low high n
+    → l′ ≡ pick b (withColumn t at x (tracksIn t a) l) l → DrawnTo b top bottom t (i + 1) l₀ l′
+drawn-next b top bottom l₀ l l′ i at x {t} {a} ea D ex h el = record { shows = go b (D .shows) el; sized = length-next t top bottom i (2 * t + 1) ys (D .sized) size d }
+  where
+    ys : List ℕ
+    ys = verticals t x ++ tracksIn t a
+
+    d : drawn t top bottom (i + 1) ≡ drawn t top bottom i ++ ys
+    d = column-next top bottom i x ys ex h refl
+
+    size : length ys ≡ 2 * t + 1
+    size = length-append (verticals t x) (tracksIn t a) ∙ omega (arith, verticals-length t x, length-tracks t a (h .fits) (h .sized))
+
+    go : (b : Bool) → l ≡ pick b (drawn t top bottom i ++ drop (i * (2 * t + 1)) l₀) l₀ → l′ ≡ pick b (withColumn t at x (tracksIn t a) l) l
+        → l′ ≡ pick b (drawn t top bottom (i + 1) ++ drop ((i + 1) * (2 * t + 1)) l₀) l₀
+    go true e f = f ∙ layout-next t top bottom l₀ l ys i at (2 * t + 1) ea e (D .sized) d
+    go false e f = f ∙ e

@@ -1,5 +1,6 @@
 -- `finish` meets its contract. The invariant: the columns of the nets below v are added, and v is the next net that remains, or 0.
-use Rattle.router.proofs.Laws.Added.{Upto, reached, onward-at, onward-joined, upto-none, next-column-fits, first-fit, reached-below}
+use Rattle.router.proofs.Laws.Onward.{reached, reached-below}
+use Rattle.router.proofs.Laws.Added.{Upto, onward-none, onward-joined, member-remains, next-column-fits, first-fit}
 use Rattle.router.proofs.Laws.Added
 use Rattle.router.proofs.Laws.Sweeps.{on-small}
 use Rattle.router.proofs.Laws.Arrays.{own}
@@ -29,8 +30,9 @@ loop-holds : tie.Need-loop-holds Inv-loop μ-loop
 loop-holds c =
     let o = c .before .before in
     let h = o .pre .1 .1 .0 in
-    let z = onward-at (o .args .extended .now) (o .pre .1 .1 .1 .0) (upto-none h) (on-small h) 0 (c .lowest-net .result) (omega arith) (λ p a b. b) (omega arith) (c .lowest-net .ensures) in
-    (z .small, z .upto, z .remaining, refl)
+    let rem = o .pre .1 .1 .1 .0 in
+    let z = onward-none (o .args .t) (o .args .n) (tracksIn (o .args .t) (o .args .tracks .now)) (o .args .layout .now) (o .args .extended .now) rem (on-small h) (c .lowest-net .result) h (c .lowest-net .ensures) in
+    (z .small, z .upto, (λ d. member-remains (tracksIn (o .args .t) (o .args .tracks .now)) (o .args .extended .now) rem (c .lowest-net .result) (z .found d)), refl)
 
 join-net-requires : tie.Need-join-net-requires Inv-loop μ-loop
 join-net-requires c κs =
@@ -75,7 +77,7 @@ loop-again c =
     let f = first-fit (remains g) (o .args .n) (2 * o .args .t + 1) (length (o .args .layout .now)) (o .pre .1 .1 .1 .1) in
     let z = onward-joined (o .args .t) (o .args .n) g (o .args .layout .now) (o .args .extended .now) (o .pre .1 .1 .1 .0) (on-small h) (l .v) (l .w) (c .next-net .result) t
     (l .inv .0) (l .inv .1) (l .inv .2 t) f (j .0) (j .1) (c .next-net .ensures) in
-    (z .small, z .upto, z .remaining, c .before .before .before .join-net .kept .0 ∙ l .inv .3)
+    (z .small, z .upto, (λ d. member-remains (tracksIn (o .args .t) (o .args .tracks .now)) (o .args .extended .now) (o .pre .1 .1 .1 .0) (c .next-net .result) (z .found d)), c .before .before .before .join-net .kept .0 ∙ l .inv .3)
 
 same-length : tie.Need-same-length Inv-loop μ-loop
 same-length c = c .before .loop .inv .3

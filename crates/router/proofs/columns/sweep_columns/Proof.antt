@@ -4,18 +4,17 @@ use Rattle.router.specs.Working.{AtGap, DrawnTo}
 use lib.ListN.{length}
 use mathlib.Core.Path.{_≡_, refl, subst, _∙_}
 use Prim.Native.Nat.{ℕ, _+_, _-_, _*_, _≤_}
-use borrow.Author.Needs.{needs}
 use native.Mathlib.Omega.{arith}
 use Rattle.router.proofs.columns.sweep_columns.Statement.{statement}
 use Rattle.router.proofs.columns.sweep_columns.Tie as tie
 
 abbrev Inv-loop : tie.InvT-loop
-Inv-loop top bottom layout₀ first last tracks₀ free₀ low₀ high₀ many₀ extended₀ wide₀ mates₀ lone₀ t family each i₀ at₀ layout tracks free low high many extended wide mates lone i at =
+Inv-loop top bottom layout₀ first last tracks₀ free₀ low₀ high₀ many₀ extended₀ wide₀ mates₀ lone₀ t family drawing each i₀ at₀ layout tracks free low high many extended wide mates lone i at =
     (i ≤ length top) × (at ≡ i * each) × AtGap top bottom last t family i tracks free low high many extended wide mates lone
-    × DrawnTo top bottom t i layout₀ layout × (length layout ≡ length layout₀)
+    × DrawnTo drawing top bottom t i layout₀ layout × (length layout ≡ length layout₀)
 
 abbrev μ-loop : tie.MeasureT-loop
-μ-loop top bottom layout₀ first last tracks₀ free₀ low₀ high₀ many₀ extended₀ wide₀ mates₀ lone₀ t family each i₀ at₀ layout tracks free low high many extended wide mates lone i at =
+μ-loop top bottom layout₀ first last tracks₀ free₀ low₀ high₀ many₀ extended₀ wide₀ mates₀ lone₀ t family drawing each i₀ at₀ layout tracks free low high many extended wide mates lone i at =
     length top - i
 
 mul-each : tie.Need-mul-each Inv-loop μ-loop
@@ -27,7 +26,7 @@ add-each c = omega (arith, c .before .before .before .pre .0 .fits)
 loop-holds : tie.Need-loop-holds Inv-loop μ-loop
 loop-holds c =
     let o = c .before .before .before in
-    (omega arith, omega arith, o .pre .1 .1 .0, Steps.none-drawn (o .args .top .now) (o .args .bottom .now) (o .args .t) (o .args .layout .now), refl)
+    (omega arith, omega arith, o .pre .1 .1 .0, Steps.none-drawn (o .args .drawing) (o .args .top .now) (o .args .bottom .now) (o .args .t) (o .args .layout .now), refl)
 
 advance-requires : tie.Need-advance-requires Inv-loop μ-loop
 advance-requires c κs =
@@ -37,43 +36,14 @@ advance-requires c κs =
     let b = e .loop-test .taken in
     (b, (o .pre .0, (o .pre .1 .0 (l .i) b, l .inv .2)))
 
-add-write-column : tie.Need-add-write-column Inv-loop μ-loop
-add-write-column c =
-    let e = c .before .before .before .before .before .before .before .before .before .before in
-    let l = e .before .loop in
-    let o = e .before .before .before .before .before in
-    omega (arith, Steps.fits-next (length (o .args .top .now)) (l .i) (2 * o .args .t + 1) (e .loop-test .taken), o .pre .1 .1 .1, l .inv .1, l .inv .4, o .good .1 .1 .0 .0, o .good .1 .1 .0 .1)
-
-mul-write-column : tie.Need-mul-write-column Inv-loop μ-loop
-mul-write-column c =
-    let e = c .before .before .before .before .before .before .before .before .before .before in
-    let l = e .before .loop in
-    let o = e .before .before .before .before .before in
-    omega (arith, Steps.fits-next (length (o .args .top .now)) (l .i) (2 * o .args .t + 1) (e .loop-test .taken), o .pre .1 .1 .1, l .inv .1, l .inv .4, o .good .1 .1 .0 .0, o .good .1 .1 .0 .1)
-
-sub-write-column : tie.Need-sub-write-column Inv-loop μ-loop
-sub-write-column c = search needs
-
-part-write-column-start : tie.Need-part-write-column-start Inv-loop μ-loop
-part-write-column-start c = search needs
-
-part-write-column-end : tie.Need-part-write-column-end Inv-loop μ-loop
-part-write-column-end c =
-    let e = c .before .before .before .before .before .before .before .before .before .before in
-    let l = e .before .loop in
-    let o = e .before .before .before .before .before in
-    omega (arith, Steps.fits-next (length (o .args .top .now)) (l .i) (2 * o .args .t + 1) (e .loop-test .taken), o .pre .1 .1 .1, l .inv .1, l .inv .4, o .good .1 .1 .0 .0, o .good .1 .1 .0 .1)
-
-write-column-requires : tie.Need-write-column-requires Inv-loop μ-loop
-write-column-requires c κs =
+draw-column-requires : tie.Need-draw-column-requires Inv-loop μ-loop
+draw-column-requires c κs =
     let e = c .before .before .before .before .before .before .before .before .before .before .before .before in
     let l = e .before .loop in
-    let o = e .before .before .before .before .before in
-    let k = c .before .before .advance in (
+    let o = e .before .before .before .before .before in (
       o .pre .0 .fits,
-      Steps.part-length (l .layout) (l .at) (2 * o .args .t + 1)
-          (omega (arith, Steps.fits-next (length (o .args .top .now)) (l .i) (2 * o .args .t + 1) (e .loop-test .taken), o .pre .1 .1 .1, l .inv .1, l .inv .4, o .good .1 .1 .0 .0, o .good .1 .1 .0 .1)),
-      k .ensures .1 .keeps .holds .sized,
+      c .before .before .advance .ensures .1 .keeps .holds .sized,
+      λ d. omega (arith, Steps.fits-next (length (o .args .top .now)) (l .i) (2 * o .args .t + 1) (e .loop-test .taken), o .pre .1 .1 .1 d, l .inv .1, l .inv .4),
     )
 
 add-at : tie.Need-add-at Inv-loop μ-loop
@@ -81,7 +51,7 @@ add-at c =
     let e = c .before .before .before .before .before .before .before .before .before .before .before .before .before .before .before in
     let l = e .before .loop in
     let o = e .before .before .before .before .before in
-    omega (arith, Steps.fits-next (length (o .args .top .now)) (l .i) (2 * o .args .t + 1) (e .loop-test .taken), o .pre .1 .1 .1, l .inv .1, l .inv .4, o .good .1 .1 .0 .0, o .good .1 .1 .0 .1)
+    omega (arith, Steps.columns-small (length (o .args .top .now)) (l .i) (o .args .t) (e .loop-test .taken) (o .pre .0 .most) (o .pre .0 .fits), l .inv .1)
 
 add-i : tie.Need-add-i Inv-loop μ-loop
 add-i c =
@@ -97,15 +67,12 @@ loop-again c =
     let l = e .before .loop in
     let o = e .before .before .before .before .before in
     let k = c .before .before .before .before .before .advance in
-    let y = c .before .before .write-column in
-    let b = e .loop-test .taken in
-    let p = Steps.part-length (l .layout) (l .at) (2 * o .args .t + 1)
-    (omega (arith, Steps.fits-next (length (o .args .top .now)) (l .i) (2 * o .args .t + 1) b, o .pre .1 .1 .1, l .inv .1, l .inv .4, o .good .1 .1 .0 .0, o .good .1 .1 .0 .1)) in (
-      omega arith,
+    let y = c .before .before .draw-column in (
+      omega (arith, e .loop-test .taken),
       Steps.at-next (l .at) (l .i) (2 * o .args .t + 1) (l .inv .1),
       k .ensures .1,
-      Steps.drawn-next (o .args .top .now) (o .args .bottom .now) (o .args .layout .now) (l .layout) (y .last .0) (l .i) (l .at) (k .result) (l .inv .1) (l .inv .3) (k .ensures .0) (k .ensures .1 .keeps .holds) (y .ensures) (y .kept .0 ∙ p),
-      c .before .layout .given .1 ∙ l .inv .4,
+      Steps.drawn-next (o .args .drawing) (o .args .top .now) (o .args .bottom .now) (o .args .layout .now) (l .layout) _ (l .i) (l .at) (k .result) (l .inv .1) (l .inv .3) (k .ensures .0) (k .ensures .1 .keeps .holds) (y .ensures),
+      y .kept .0 ∙ l .inv .4,
     )
 
 same-length : tie.Need-same-length Inv-loop μ-loop
@@ -117,7 +84,7 @@ returns c =
     let l = c .before .loop in
     let e : l .i ≡ length (o .args .top .now) = omega arith in (
       subst (λ (z : ℕ). AtGap (o .args .top .now) (o .args .bottom .now) (o .args .last .now) (o .args .t) (o .args .family) z (l .tracks) (l .free) (l .low) (l .high) (l .many) (l .extended) (l .wide) (l .mates) (l .lone)) e (l .inv .2),
-      subst (λ (z : ℕ). DrawnTo (o .args .top .now) (o .args .bottom .now) (o .args .t) z (o .args .layout .now) (l .layout)) e (l .inv .3),
+      subst (λ (z : ℕ). DrawnTo (o .args .drawing) (o .args .top .now) (o .args .bottom .now) (o .args .t) z (o .args .layout .now) (l .layout)) e (l .inv .3),
     )
 
 pub sweep-columns-spec : {M : Type 1} → statement M
@@ -130,12 +97,7 @@ sweep-columns-spec =
     add-each
     loop-holds
     advance-requires
-    add-write-column
-    mul-write-column
-    sub-write-column
-    part-write-column-start
-    part-write-column-end
-    write-column-requires
+    draw-column-requires
     add-at
     add-i
     loop-less
