@@ -5,8 +5,8 @@ Written from documents 01 and 02 alone, the third sweep with the choices of docs
 It keeps the tracks of each net as a set, draws wires row by row, and finds pieces by a search over grid points.
 
     second_router.py list  < record      the listing of one record
-    second_router.py compare FILE ...    compare with files of worked cases, whose names end in routes.txt, listings.txt, checks.txt, reports.txt or
-                                         long.txt
+    second_router.py compare FILE ...    compare with files of worked cases, whose names end in routes.txt, needs.txt, listings.txt, checks.txt,
+                                         reports.txt or long.txt
 """
 
 import sys
@@ -14,7 +14,7 @@ import sys
 from second_channel import LARGEST, refusal
 from second_checker import check
 from second_report import NO_RECORD, report
-from second_sweep import route
+from second_sweep import need, route, route_number
 
 LISTED = 64  # columns of a channel that is listed
 
@@ -100,6 +100,16 @@ def same_route(part):
     return len(same) > 2 and all(same)
 
 
+def same_need(part):
+    """Whether the router gives a worked case's answers: the need or a refusal, then the number of routing with a slice of each length."""
+    top, bottom = row(part[0]), row(part[1])
+    number = refusal(top, bottom)
+    lengths = [figures(line)[0] for line in part[3:]]
+    answers = ["refused %d" % number if number else "need %d" % need(top, bottom)]
+    answers += ["slice %d number %d" % (length, route_number(top, bottom, length)) for length in lengths]
+    return len(answers) > 1 and part[2:] == answers
+
+
 def same_listing(part):
     return listing(bytes.fromhex(part[0].partition(" ")[2])) == "\n".join(part[1:]) + "\n"
 
@@ -141,7 +151,14 @@ def same_report(part):
     return before_job_8(worked) == answer and table == (kept if worked[0] else filled + kept[LARGEST:])
 
 
-KINDS = {"routes.txt": same_route, "listings.txt": same_listing, "checks.txt": same_check, "reports.txt": same_report, "long.txt": same_report}
+KINDS = {
+    "routes.txt": same_route,
+    "needs.txt": same_need,
+    "listings.txt": same_listing,
+    "checks.txt": same_check,
+    "reports.txt": same_report,
+    "long.txt": same_report,
+}
 
 
 def compare(paths):

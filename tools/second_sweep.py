@@ -1,6 +1,9 @@
-"""The sweeps of the second router, from documents 01 and 02 alone: two-pin and many-pin channels here, the third one in second_three_pin.py."""
+"""The sweeps of the second router and the slice length that they need, from documents 01 and 02 alone.
 
-from second_channel import MANY_PIN, THREE_PIN, TWO_PIN, density, family, span, tracks
+Two-pin and many-pin channels are drawn here, those of the third sweep in second_three_pin.py.
+"""
+
+from second_channel import MANY_PIN, THREE_PIN, TWO_PIN, density, family, refusal, span, tracks
 from second_column import Column, Pins, both_end, bottom_adds, bottom_ends, can_both_end, close_net, go_direct, new_tracks, stretched_net, top_adds, top_ends
 from second_three_pin import ThreePinSweep
 
@@ -159,3 +162,14 @@ def route(top, bottom):
         layout += place.entries()
         strands = place.right
     return density(top, bottom), t, width, layout
+
+
+def need(top, bottom):
+    """The slice length that routing a channel that is not refused calls for."""
+    _, t, w, _ = route(top, bottom)
+    return w * (2 * t + 1)
+
+
+def route_number(top, bottom, length):
+    """The number that routing answers with a slice of a length: the rows' refusal, 8 for a slice that is too short, else 0."""
+    return refusal(top, bottom) or (8 if length < need(top, bottom) else 0)

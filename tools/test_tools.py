@@ -17,7 +17,7 @@ import second_router
 import three_pin_channels
 from second_channel import MANY_PIN, THREE_PIN, TWO_PIN, family, refusal
 from second_checker import check
-from second_sweep import route
+from second_sweep import need, route, route_number
 
 HERE = pathlib.Path(__file__).resolve().parent
 CRATES = HERE.parent / "crates"
@@ -96,7 +96,7 @@ class Stored(unittest.TestCase):
 
 
 class Routes(unittest.TestCase):
-    """The second router, on the worked cases of job3-routes.txt and job3-listings.txt and on channels of the third sweep."""
+    """The second router, on the worked cases of job3-routes.txt, job3-listings.txt and job5-before-7-needs.txt and on channels of the third sweep."""
 
     def parts(self, name):
         return second_router.blocks(HERE / "cases" / name)
@@ -112,6 +112,26 @@ class Routes(unittest.TestCase):
         parts = self.parts("job3-listings.txt")
         self.assertEqual([part for part in parts if not second_router.same_listing(part)], [])
         self.assertEqual((len(parts), sum(part[1].startswith("refused") for part in parts)), (450, 49))
+
+    def test_worked_needs(self):
+        parts = self.parts("job5-before-7-needs.txt")
+        self.assertEqual([part for part in parts if not second_router.same_need(part)], [])
+        numbers = [second_router.figures(line)[1] for part in parts for line in part[3:]]
+        self.assertEqual((len(parts), sum(part[2].startswith("refused") for part in parts)), (1663, 160))
+        self.assertEqual((len(numbers), numbers.count(8), numbers.count(0)), (6798, 2691, 3787))
+
+    def test_need_without_added_columns(self):
+        top, bottom = [1, 1], [2, 2]  # on 2 tracks in 2 columns, where document 01's formula has 15 entries
+        self.assertEqual((need(top, bottom), route_number(top, bottom, 9), route_number(top, bottom, 10)), (10, 8, 0))
+
+    def test_another_need_differs(self):
+        stated = ["top 1 1", "bottom 2 2", "need 10", "slice 9 number 8", "slice 10 number 0"]
+        refused = ["top 1", "bottom 0", "refused 7", "slice 0 number 7"]
+        self.assertTrue(second_router.same_need(stated) and second_router.same_need(refused))
+        for place, line in [(2, "need 15"), (2, "refused 7"), (3, "slice 9 number 0"), (4, "slice 10 number 8")]:
+            self.assertFalse(second_router.same_need(stated[:place] + [line] + stated[place + 1 :]))
+        for other in (stated[:3], refused[:3], refused[:2] + ["refused 6"] + refused[3:], refused[:3] + ["slice 0 number 8"], refused[:2] + stated[2:]):
+            self.assertFalse(second_router.same_need(other))
 
     def test_another_answer_differs(self):
         drawn = ["top 1 2 1", "bottom 2 1 2", "density 2 tracks 3 width 4", "sum 401", "layout 2 0 1 1 2 1 0 1 2 2 2 1 1 2 2 1 1 1 2 0 2 0 2 2 0 0 0 0"]

@@ -52,22 +52,27 @@ fn random_rows(
     }
 }
 
+/// The length of a slice that any channel of that many columns, one or more, is
+/// drawn into at once. At most as many nets as columns cross a gap, so the tracks
+/// are at most one less than twice the columns.
+fn room(columns: usize) -> usize {
+    let tracks = 2 * columns - 1;
+    (columns + tracks / 2) * (2 * tracks + 1)
+}
+
 /// Routes channels until the work is done.
 fn work(seed: u64, channels: u64, columns: usize, pins: usize, done: &AtomicU64) -> Best {
     const SHARE: u64 = 100;
     let mut state = seed;
     let mut places: Vec<u16> = (0..2 * columns as u16).collect();
     let (mut top, mut bottom) = (vec![0; columns], vec![0; columns]);
-    let mut layout = Vec::new();
+    let mut layout = vec![0; room(columns)];
     let mut best = Best::default();
     while done.fetch_add(SHARE, Ordering::Relaxed) < channels {
         for _ in 0..SHARE {
             random_rows(&mut state, pins, &mut places, &mut top, &mut bottom);
-            let need = gaxwethi::need(&top, &bottom).expect("the rows are right");
-            if layout.len() < need {
-                layout.resize(need, 0);
-            }
-            let figures = gaxwethi::route(&top, &bottom, &mut layout).expect("there is room");
+            let figures = gaxwethi::route(&top, &bottom, &mut layout);
+            let figures = figures.expect("the rows are right and there is room");
             let met = Best { figures: Some(figures), ..Best::default() };
             if met.rank() > best.rank() {
                 best = Best { top: top.clone(), bottom: bottom.clone(), ..met };
@@ -95,8 +100,7 @@ fn show(best: &Best) {
     }
     let mut layout = vec![0; gaxwethi::need(&best.top, &best.bottom).unwrap()];
     gaxwethi::route(&best.top, &best.bottom, &mut layout).unwrap();
-    let drawing = &layout[..figures.entries()];
-    match gaxwethi::check(&best.top, &best.bottom, width, tracks, drawing) {
+    match gaxwethi::check(&best.top, &best.bottom, width, tracks, &layout) {
         Ok(()) => println!("the checker passes its drawing"),
         Err(fault) => println!("the checker: {fault}"),
     }

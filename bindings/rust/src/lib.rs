@@ -10,11 +10,14 @@
 //! let mut layout = vec![0; gaxwethi::need(&top, &bottom)?];
 //! let drawn = gaxwethi::route(&top, &bottom, &mut layout)?;
 //! assert_eq!((drawn.density, drawn.tracks, drawn.width), (2, 2, 3));
-//! let layout = &layout[..drawn.entries()];
-//! assert!(gaxwethi::check(&top, &bottom, drawn.width, drawn.tracks, layout).is_ok());
-//! assert_eq!(gaxwethi::column(layout, drawn.width, drawn.tracks, 2), [1, 2, 2, 1, 1]);
+//! assert_eq!(layout.len(), drawn.entries());
+//! assert!(gaxwethi::check(&top, &bottom, drawn.width, drawn.tracks, &layout).is_ok());
+//! assert_eq!(gaxwethi::column(&layout, drawn.width, drawn.tracks, 2), [1, 2, 2, 1, 1]);
 //! # Ok::<(), gaxwethi::Refusal>(())
 //! ```
+//!
+//! Where many channels are routed, lend one slice that is always enough: [`route`]
+//! says how long it is.
 //!
 //! The library keeps no state, so calls from several threads are independent.
 
@@ -120,8 +123,13 @@ pub fn density(top: &[u16], bottom: &[u16]) -> Result<usize, Refusal> {
     accept(r.number, r.density)
 }
 
-/// The length of a layout slice that is enough to route a channel, or refusal
-/// 4 to 7.
+/// The length that a layout slice must have to route a channel, or refusal 4 to 7:
+/// w × (2t + 1) for the width w that the drawing will have and its tracks t.
+///
+/// This call is a run of the sweep, without drawing. A slice of (n + t/2 rounded
+/// down) × (2t + 1) entries, for n columns, is always enough and is drawn into at
+/// once; a shorter one that is long enough costs [`route`] a second run of the
+/// sweep, without drawing.
 pub fn need(top: &[u16], bottom: &[u16]) -> Result<usize, Refusal> {
     let (n, m) = (top.len(), bottom.len());
     let r = unsafe { raw::gaxwethi_need(top.as_ptr(), n, bottom.as_ptr(), m) };
@@ -130,7 +138,11 @@ pub fn need(top: &[u16], bottom: &[u16]) -> Result<usize, Refusal> {
 
 /// Routes a channel: the drawing is the first [`Figures::entries`] of the
 /// layout slice, and what follows keeps its contents. With refusal 4 to 8
-/// nothing is written.
+/// nothing is written; 8 is a slice shorter than [`need`] says.
+///
+/// A slice of (n + t/2 rounded down) × (2t + 1) entries, for n columns and t
+/// tracks, is always enough and is drawn into at once; a shorter one that is long
+/// enough costs a second run of the sweep, without drawing.
 pub fn route(top: &[u16], bottom: &[u16], layout: &mut [u16]) -> Result<Figures, Refusal> {
     let (n, m, len) = (top.len(), bottom.len(), layout.len());
     let out = layout.as_mut_ptr();

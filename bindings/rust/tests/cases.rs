@@ -7,8 +7,8 @@ fn routed(top: &[u16], bottom: &[u16]) -> Result<(usize, usize, usize), Refusal>
     let mut layout = vec![9; need(top, bottom)?];
     let drawn = route(top, bottom, &mut layout)?;
     assert_eq!(density(top, bottom), Ok(drawn.density));
-    let layout = &layout[..drawn.entries()];
-    assert_eq!(check(top, bottom, drawn.width, drawn.tracks, layout), Ok(()));
+    assert_eq!(layout.len(), drawn.entries());
+    assert_eq!(check(top, bottom, drawn.width, drawn.tracks, &layout), Ok(()));
     Ok((drawn.density, drawn.tracks, drawn.width))
 }
 
@@ -33,6 +33,24 @@ fn slice_of_case_d() {
     assert_eq!(route(&[1, 2], &[2, 1], &mut short), Err(Refusal::LayoutTooShort));
     assert_eq!(short, [9; 14]);
     assert!(route(&[1, 2], &[2, 1], &mut [9; 15]).is_ok());
+}
+
+#[test]
+fn slice_without_added_columns() {
+    // On 2 tracks in 2 columns, where document 01's formula has 15 entries.
+    let (top, bottom) = ([1, 1], [2, 2]);
+    assert_eq!(need(&top, &bottom), Ok(10));
+    let mut short = [9; 9];
+    assert_eq!(route(&top, &bottom, &mut short), Err(Refusal::LayoutTooShort));
+    assert_eq!(short, [9; 9]);
+    let drawing = [2, 0, 1, 2, 1, 2, 0, 1, 0, 0];
+    for length in 10..=16 {
+        let mut layout = vec![9; length];
+        let figures = Figures { density: 2, tracks: 2, width: 2 };
+        assert_eq!(route(&top, &bottom, &mut layout), Ok(figures));
+        assert_eq!(layout[..10], drawing);
+        assert!(layout[10..].iter().all(|&entry| entry == 9));
+    }
 }
 
 #[test]

@@ -1,4 +1,5 @@
-//! The library on the worked routes and listings, `tools/cases/job3-*.txt`.
+//! The library on the worked routes and listings, `tools/cases/job3-*.txt`, and on
+//! the worked needs, `tools/cases/job5-before-7-needs.txt`.
 
 mod worked;
 
@@ -31,23 +32,33 @@ fn refused(case: &str, refusal: Refusal) {
 }
 
 /// Sees that a channel is drawn as worked out, in a slice of just the needed
-/// length, and that all behind the drawing stays.
+/// length and in one of document 01's formula.
 fn drawn(case: &str) {
     let (top, bottom) = (words(case, "top"), words(case, "bottom"));
     let [d, t, w] = lines(case, "density").next().unwrap().try_into().unwrap();
-    let length = (top.len() + t / 2) * (2 * t + 1);
-    assert_eq!(density(&top, &bottom), Ok(d), "{case}");
-    assert_eq!(need(&top, &bottom), Ok(length), "{case}");
-    let mut slice = vec![KEPT; length + 1];
     let figures = Figures { density: d, tracks: t, width: w };
-    assert_eq!(route(&top, &bottom, &mut slice[..length]), Ok(figures), "{case}");
-    let (layout, behind) = slice.split_at(figures.entries());
-    assert!(behind.iter().all(|&entry| entry == KEPT), "written behind the drawing:\n{case}");
-    assert_eq!(check(&top, &bottom, w, t, layout), Ok(()), "{case}");
-    assert_eq!(lines(case, "sum").next(), Some(vec![sum(layout)]), "{case}");
-    if lines(case, "layout").next().is_some() {
-        assert!(layout == words(case, "layout"), "another layout:\n{case}");
+    assert_eq!(density(&top, &bottom), Ok(d), "{case}");
+    assert_eq!(need(&top, &bottom), Ok(figures.entries()), "{case}");
+    for length in [figures.entries(), (top.len() + t / 2) * (2 * t + 1)] {
+        let (answer, layout) = routed(case, length);
+        assert_eq!(answer, Ok(figures), "{case}");
+        assert_eq!(check(&top, &bottom, w, t, &layout), Ok(()), "{case}");
+        assert_eq!(lines(case, "sum").next(), Some(vec![sum(&layout)]), "{case}");
+        if lines(case, "layout").next().is_some() {
+            assert!(layout == words(case, "layout"), "another layout:\n{case}");
+        }
     }
+}
+
+/// The answer of routing into a slice of some length, and the drawing. Sees that all
+/// behind it stays, and the whole slice where the call is refused.
+fn routed(case: &str, length: usize) -> (Result<Figures, Refusal>, Vec<u16>) {
+    let (top, bottom) = (words(case, "top"), words(case, "bottom"));
+    let mut slice = vec![KEPT; length + 1];
+    let answer = route(&top, &bottom, &mut slice[..length]);
+    let behind = slice.split_off(answer.map_or(0, |figures| figures.entries()));
+    assert!(behind.iter().all(|&entry| entry == KEPT), "written outside the drawing:\n{case}");
+    (answer, slice)
 }
 
 #[test]
@@ -58,6 +69,30 @@ fn worked_routes() {
     };
     let text = include_str!("../../../tools/cases/job3-routes.txt");
     assert_eq!(cases(text).map(tried).count(), 1273);
+}
+
+/// Sees that need and routing answer as worked out, and that an accepted drawing is
+/// a solution.
+fn needed(case: &str) {
+    let (top, bottom) = (words(case, "top"), words(case, "bottom"));
+    let wanted = refusal(case).map_or_else(|| Ok(lines(case, "need").next().unwrap()[0]), Err);
+    assert_eq!(need(&top, &bottom), wanted, "{case}");
+    for slice in lines(case, "slice") {
+        let [length, number] = slice.try_into().unwrap();
+        let (answer, layout) = routed(case, length);
+        let got = answer.map_or_else(|refusal| refusal.number().into(), |_| 0);
+        assert_eq!(got, number, "{case}");
+        if let Ok(Figures { tracks, width, .. }) = answer {
+            assert_eq!(check(&top, &bottom, width, tracks, &layout), Ok(()), "{case}");
+        }
+    }
+}
+
+#[test]
+fn worked_needs() {
+    let text = include_str!("../../../tools/cases/job5-before-7-needs.txt");
+    assert_eq!(cases(text).map(needed).count(), 1663);
+    assert_eq!(cases(text).flat_map(|case| lines(case, "slice")).count(), 6798);
 }
 
 /// The bytes that a line has in hexadecimal after its word.

@@ -11,5 +11,5 @@ mod set;
 pub use check::{check, column, Checked};
 pub use list::list;
 pub use report::{report, report_drawing};
-pub use route::{need, route, Figures};
+pub use route::{formula, need, route, Figures};
 pub use rows::density;

@@ -1,6 +1,6 @@
 //! Reading a record and writing the listing.
 
-use crate::{need, route, rows::nets};
+use crate::{formula, route, rows::nets};
 use std::io::Write;
 
 fn rows(record: &[u8]) -> Result<(Vec<u16>, Vec<u16>), u16> {
@@ -22,7 +22,7 @@ fn rows(record: &[u8]) -> Result<(Vec<u16>, Vec<u16>), u16> {
 fn listing(record: &[u8], text: &mut &mut [u8]) -> Result<(), u16> {
     let (top, bottom) = rows(record)?;
     nets(&top, &bottom, 64)?;
-    let mut layout = vec![0; need(&top, &bottom)?];
+    let mut layout = vec![0; formula(&top, &bottom)?];
     let figures = route(&top, &bottom, &mut layout)?;
     let (d, t, w) = (figures.density, figures.tracks, figures.width);
     writeln!(text, "density {d} tracks {t} width {w}").unwrap();

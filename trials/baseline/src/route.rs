@@ -8,6 +8,69 @@ use crate::rows::{densest, family, nets, Family, Nets};
 use crate::set::Set;
 use Verticals::{Five, Three};
 
+/// The rows of a channel that is not refused, and what they settle.
+struct Channel<'a> {
+    top: &'a [u16],
+    bottom: &'a [u16],
+    nets: &'a Nets,
+    family: Family,
+    density: usize,
+    tracks: usize,
+}
+
+impl<'a> Channel<'a> {
+    fn new(top: &'a [u16], bottom: &'a [u16], nets: &'a Nets) -> Self {
+        let family = family(top, bottom, nets);
+        let density = densest(top.len(), nets);
+        let tracks = match family {
+            Family::TwoPin => density,
+            Family::ThreePin => 3 * density / 2,
+            Family::ManyPin => 2 * density - 1,
+        };
+        Channel { top, bottom, nets, family, density, tracks }
+    }
+
+    /// The pins of each column, top and bottom.
+    fn columns(&self) -> impl Iterator<Item = (u16, u16)> + 'a {
+        self.top.iter().copied().zip(self.bottom.iter().copied())
+    }
+
+    /// The entries of a drawing with some columns added.
+    fn entries(&self, added: usize) -> usize {
+        (self.top.len() + added) * (2 * self.tracks + 1)
+    }
+
+    /// The slice length of document 01's formula.
+    fn formula(&self) -> usize {
+        self.entries(self.tracks / 2)
+    }
+
+    /// The slice length that the drawing fills, by a dry run.
+    fn need(&self) -> usize {
+        let mut sweep = Sweep::new(self);
+        for (p, q) in self.columns() {
+            sweep.step(p, q);
+        }
+        self.entries(sweep.stretched.len())
+    }
+
+    /// Draws the channel and returns the width.
+    fn draw(&self, layout: &mut [u16]) -> usize {
+        let mut sweep = Sweep::new(self);
+        let mut columns = layout.chunks_exact_mut(2 * self.tracks + 1);
+        for ((p, q), column) in self.columns().zip(&mut columns) {
+            let verticals = sweep.step(p, q);
+            sweep.draw(column, verticals);
+        }
+        let mut width = self.top.len();
+        while let Some(verticals) = sweep.join_last() {
+            sweep.draw(columns.next().unwrap(), verticals);
+            width += 1;
+        }
+        width
+    }
+}
+
 /// What a routed channel reports.
 #[derive(Clone, Copy, Default)]
 pub struct Figures {
@@ -41,6 +104,7 @@ enum Verticals {
 
 struct Sweep<'a> {
     nets: &'a Nets,
+    family: Family,
     t: usize,
     c: u16,
     tracks: [u16; 512],
@@ -55,12 +119,13 @@ struct Sweep<'a> {
 }
 
 impl<'a> Sweep<'a> {
-    fn new(nets: &'a Nets, t: usize) -> Self {
+    fn new(channel: &Channel<'a>) -> Self {
         let mut free = Set::default();
-        (1..=t).for_each(|track| free.insert(track));
+        (1..=channel.tracks).for_each(|track| free.insert(track));
         Sweep {
-            nets,
-            t,
+            nets: channel.nets,
+            family: channel.family,
+            t: channel.tracks,
             c: 1,
             tracks: [0; 512],
             free,
@@ -260,57 +325,50 @@ impl<'a> Sweep<'a> {
         Three(q, s.low, 0, s.low, p)
     }
 
-    fn run(mut self, top: &[u16], bottom: &[u16], layout: &mut [u16], family: Family) -> usize {
-        let mut columns = layout.chunks_exact_mut(2 * self.t + 1);
-        for ((&p, &q), column) in top.iter().zip(bottom).zip(&mut columns) {
-            let verticals = match family {
-                Family::TwoPin => self.two_pin(p, q),
-                Family::ThreePin => self.three_pin(p, q),
-                Family::ManyPin => self.many_pin(p, q),
-            };
-            self.sort(p);
-            self.sort(q);
-            self.draw(column, verticals);
-            self.c += 1;
-        }
-        let mut width = top.len();
-        while let Some(net) = self.stretched.lowest() {
-            let strands = self.strands[net];
-            self.drop_net(net as u16);
-            self.stretched.remove(net);
-            let joined = Three(0, strands.low, net as u16, strands.high, 0);
-            self.draw(columns.next().unwrap(), joined);
-            width += 1;
-        }
-        width
+    /// One column of the sweep, up to its drawing: the body of two loops.
+    #[inline(always)]
+    fn step(&mut self, p: u16, q: u16) -> Verticals {
+        let verticals = match self.family {
+            Family::TwoPin => self.two_pin(p, q),
+            Family::ThreePin => self.three_pin(p, q),
+            Family::ManyPin => self.many_pin(p, q),
+        };
+        self.sort(p);
+        self.sort(q);
+        self.c += 1;
+        verticals
+    }
+
+    /// Joins the lowest-numbered stretched net, if there is one.
+    fn join_last(&mut self) -> Option<Verticals> {
+        let net = self.stretched.lowest()?;
+        let Strands { low, high, .. } = self.strands[net];
+        self.drop_net(net as u16);
+        self.stretched.remove(net);
+        Some(Three(0, low, net as u16, high, 0))
     }
 }
 
-/// The tracks of a channel of density d.
-fn tracks_of(family: Family, d: usize) -> usize {
-    match family {
-        Family::TwoPin => d,
-        Family::ThreePin => 3 * d / 2,
-        Family::ManyPin => 2 * d - 1,
-    }
+/// The slice length of document 01's formula: always enough, and drawn into at once.
+pub fn formula(top: &[u16], bottom: &[u16]) -> Result<usize, u16> {
+    let nets = nets(top, bottom, 256)?;
+    Ok(Channel::new(top, bottom, &nets).formula())
 }
 
 /// The slice length that routing calls for.
 pub fn need(top: &[u16], bottom: &[u16]) -> Result<usize, u16> {
     let nets = nets(top, bottom, 256)?;
-    let t = tracks_of(family(top, bottom, &nets), densest(top.len(), &nets));
-    Ok((top.len() + t / 2) * (2 * t + 1))
+    Ok(Channel::new(top, bottom, &nets).need())
 }
 
-/// Routes a channel into a layout slice.
+/// Routes a channel into a layout slice. One that is shorter than the formula says
+/// costs a dry run first.
 pub fn route(top: &[u16], bottom: &[u16], layout: &mut [u16]) -> Result<Figures, u16> {
     let nets = nets(top, bottom, 256)?;
-    let family = family(top, bottom, &nets);
-    let density = densest(top.len(), &nets);
-    let tracks = tracks_of(family, density);
-    if layout.len() < (top.len() + tracks / 2) * (2 * tracks + 1) {
+    let channel = Channel::new(top, bottom, &nets);
+    if layout.len() < channel.formula() && layout.len() < channel.need() {
         return Err(8);
     }
-    let width = Sweep::new(&nets, tracks).run(top, bottom, layout, family);
-    Ok(Figures { density, tracks, width })
+    let width = channel.draw(layout);
+    Ok(Figures { density: channel.density, tracks: channel.tracks, width })
 }

@@ -23,6 +23,11 @@ impl Set {
         self.lowest()
     }
 
+    /// The number of members.
+    pub fn len(&self) -> usize {
+        self.0.iter().map(|word| word.count_ones() as usize).sum()
+    }
+
     pub fn put(&mut self, i: usize, member: bool) {
         let word = &mut self.0[i / 64];
         *word = *word & !(1 << (i % 64)) | (member as u64) << (i % 64);

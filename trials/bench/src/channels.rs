@@ -4,6 +4,8 @@
 pub struct Case {
     pub top: Vec<u16>,
     pub bottom: Vec<u16>,
+    /// The slice length of document 01's formula.
+    pub room: usize,
     pub width: usize,
     pub tracks: usize,
     pub drawing: Vec<u16>,
@@ -56,10 +58,11 @@ pub fn cases(n: usize, most: usize, count: usize) -> Vec<Case> {
     let mut state = 0x9e37_79b9_7f4a_7c15 ^ (1000 * most + n) as u64;
     let mut make = || {
         let (top, bottom) = rows(&mut state, n, most);
-        let mut drawing = vec![0; baseline::need(&top, &bottom).unwrap()];
+        let room = baseline::formula(&top, &bottom).unwrap();
+        let mut drawing = vec![0; room];
         let drawn = baseline::route(&top, &bottom, &mut drawing).unwrap();
         drawing.truncate(drawn.width * (2 * drawn.tracks + 1));
-        Case { top, bottom, width: drawn.width, tracks: drawn.tracks, drawing }
+        Case { top, bottom, room, width: drawn.width, tracks: drawn.tracks, drawing }
     };
     (0..count).map(|_| make()).collect()
 }

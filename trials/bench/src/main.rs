@@ -19,6 +19,16 @@ type Side<'a> = Box<dyn FnMut(&Case) -> usize + 'a>;
 /// A measurement of some channels, with that many repetitions: a time for each side.
 type Measure = fn(&[Case], usize) -> Vec<f64>;
 
+/// What is measured, in the order of the table.
+const CALLS: [(&str, Measure); 6] = [
+    ("density", density),
+    ("need", need),
+    ("route", route),
+    ("route, slice of the need", route_fitting),
+    ("check", check),
+    ("report", report),
+];
+
 /// The channels of a row of the table are measured in this many groups.
 const GROUPS: usize = 4;
 
@@ -84,17 +94,36 @@ fn density(cases: &[Case], repetitions: usize) -> Vec<f64> {
     medians(vec![Box::new(library), Box::new(rust)], cases, repetitions)
 }
 
-/// Routing, and a fill of as many entries as the drawing has.
+fn need(cases: &[Case], repetitions: usize) -> Vec<f64> {
+    let library = |c: &Case| gaxwethi::need(&c.top, &c.bottom).unwrap();
+    let rust = |c: &Case| baseline::need(&c.top, &c.bottom).unwrap();
+    medians(vec![Box::new(library), Box::new(rust)], cases, repetitions)
+}
+
+/// Routing into slices of the formula's length, which are drawn into at once.
 fn route(cases: &[Case], repetitions: usize) -> Vec<f64> {
-    let room = cases.iter().map(|c| baseline::need(&c.top, &c.bottom).unwrap()).max().unwrap();
-    let [mut one, mut other, mut filled] = [(); 3].map(|()| vec![0u16; room]);
+    route_into(|case| case.room, cases, repetitions)
+}
+
+/// Routing into slices of just the length that is needed.
+fn route_fitting(cases: &[Case], repetitions: usize) -> Vec<f64> {
+    route_into(|case| case.drawing.len(), cases, repetitions)
+}
+
+/// Routing into slices of some length, and a fill of as many entries as the drawing
+/// has.
+fn route_into(length: fn(&Case) -> usize, cases: &[Case], repetitions: usize) -> Vec<f64> {
+    let most = cases.iter().map(length).max().unwrap();
+    let [mut one, mut other, mut filled] = [(); 3].map(|()| vec![0u16; most]);
     for case in cases {
-        gaxwethi::route(&case.top, &case.bottom, &mut one).unwrap();
+        gaxwethi::route(&case.top, &case.bottom, &mut one[..length(case)]).unwrap();
         let size = case.drawing.len();
         assert_eq!(digest(&one[..size]), digest(&case.drawing), "the drawings differ");
     }
-    let library = |c: &Case| gaxwethi::route(&c.top, &c.bottom, &mut one).unwrap().width;
-    let rust = |c: &Case| baseline::route(&c.top, &c.bottom, &mut other).unwrap().width;
+    let library =
+        |c: &Case| gaxwethi::route(&c.top, &c.bottom, &mut one[..length(c)]).unwrap().width;
+    let rust =
+        |c: &Case| baseline::route(&c.top, &c.bottom, &mut other[..length(c)]).unwrap().width;
     let fill = |c: &Case| {
         filled[..c.drawing.len()].fill(black_box(7));
         black_box(&filled);
@@ -158,9 +187,7 @@ fn main() {
     println!("    cargo run --release --manifest-path trials/Cargo.toml -p bench -- {repetitions} {columns}\n");
     println!("| call | n | pins | library | Rust | library / Rust | fill | library / fill |");
     println!("|---|---|---|---|---|---|---|---|");
-    let calls: [(&str, Measure); 4] =
-        [("density", density), ("route", route), ("check", check), ("report", report)];
-    for (call, measure) in calls {
+    for (call, measure) in CALLS {
         for n in [16, 64, 256] {
             for (pins, most) in [("2", 2), ("2 or 3", 3), ("2 to 5", 5)] {
                 let times = measure(&cases(n, most, GROUPS * columns / n), repetitions);

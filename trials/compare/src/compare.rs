@@ -98,12 +98,9 @@ impl Tally {
         self.same("need", c, number, Need { number, length }, library);
     }
 
-    /// Routing into slices too short, just long enough and longer.
+    /// Routing into slices of different lengths.
     fn routes(&mut self, rng: &mut Rng, c: &Channel) {
-        let need = second::need(&c.top, &c.bottom).unwrap_or(0);
-        let longer = need + rng.from(1, 40);
-        let shorter = need.saturating_sub(if rng.percent(80) { 1 } else { rng.under(need + 1) });
-        for room in [shorter, need, longer] {
+        for room in rooms(rng, c) {
             let mut ours: Vec<u16> = (0..room).map(|i| 40000 + (i % 9999) as u16).collect();
             let mut theirs = ours.clone();
             let (number, figures) = split(second::route(&c.top, &c.bottom, &mut ours));
@@ -241,6 +238,20 @@ impl Tally {
         let place = spilt.map(|place| length + place);
         self.same("list, first byte written after the text", c, number, None, place);
     }
+}
+
+/// The lengths of slices: too short, just long enough, up to that of document 01's
+/// formula, and longer.
+fn rooms(rng: &mut Rng, c: &Channel) -> Vec<usize> {
+    let need = second::need(&c.top, &c.bottom).unwrap_or(0);
+    let formula = second::formula(&c.top, &c.bottom).unwrap_or(0);
+    let shorter = need.saturating_sub(if rng.percent(80) { 1 } else { rng.under(need + 1) });
+    let between = rng.from(need, formula);
+    let longer = formula + rng.from(1, 40);
+    let mut rooms = vec![shorter, need, between, formula.saturating_sub(1), formula, longer];
+    rooms.sort();
+    rooms.dedup();
+    rooms
 }
 
 /// A table of that many numbers, with something in it.

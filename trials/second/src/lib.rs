@@ -15,8 +15,8 @@ pub mod sweep;
 pub use check::{check, column};
 pub use record::{list, printed};
 pub use report::{report, report_drawing};
-pub use rows::{density, need};
-pub use sweep::route;
+pub use rows::{density, formula};
+pub use sweep::{need, route};
 
 /// The most columns that a library call takes.
 pub const MOST_COLUMNS: usize = 256;

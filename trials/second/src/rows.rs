@@ -1,5 +1,5 @@
-//! What the rows alone settle: refusals 4 to 7, family, density, tracks, and the
-//! slice length that a layout needs.
+//! What the rows alone settle: refusals 4 to 7, family, density, tracks, and
+//! document 01's formula for the length of a layout slice.
 
 use crate::{MOST_COLUMNS, MOST_NETS};
 
@@ -104,20 +104,15 @@ pub fn tracks_of(family: Family, d: usize) -> usize {
     }
 }
 
-/// The entries that a layout slice must have room for.
-pub fn room(n: usize, t: usize) -> usize {
-    (n + t / 2) * (2 * t + 1)
-}
-
 /// The density of a channel, or its refusal.
 pub fn density(top: &[u16], bottom: &[u16]) -> Result<usize, u16> {
     let nets = nets(top, bottom, MOST_COLUMNS)?;
     Ok(density_of(&nets, top.len()))
 }
 
-/// The slice length that routing calls for, or the refusal.
-pub fn need(top: &[u16], bottom: &[u16]) -> Result<usize, u16> {
+/// The slice length of document 01's formula, or the refusal. No drawing is longer.
+pub fn formula(top: &[u16], bottom: &[u16]) -> Result<usize, u16> {
     let nets = nets(top, bottom, MOST_COLUMNS)?;
-    let d = density_of(&nets, top.len());
-    Ok(room(top.len(), tracks_of(nets.family(), d)))
+    let t = tracks_of(nets.family(), density_of(&nets, top.len()));
+    Ok((top.len() + t / 2) * (2 * t + 1))
 }

@@ -5,7 +5,7 @@ mod many_pin;
 mod three_pin;
 mod two_pin;
 
-use crate::rows::{density_of, nets, room, tracks_of, Family, Nets};
+use crate::rows::{density_of, nets, tracks_of, Family, Nets};
 use crate::{Figures, MOST_COLUMNS};
 
 /// What a pin does to its net; `None` where there is no pin.
@@ -35,15 +35,21 @@ struct Sweep<'a> {
     pairs: Vec<(u16, u16)>,
 }
 
+/// The slice length that routing calls for, w × (2t + 1), or the refusal.
+pub fn need(top: &[u16], bottom: &[u16]) -> Result<usize, u16> {
+    let nets = nets(top, bottom, MOST_COLUMNS)?;
+    let (figures, _) = draw(top, bottom, &nets);
+    Ok(figures.width * (2 * figures.tracks + 1))
+}
+
 /// Routes a channel into a layout slice: figures, or the refusal's number. A
 /// refused call writes nothing, and entries after the drawing stay as they were.
 pub fn route(top: &[u16], bottom: &[u16], layout: &mut [u16]) -> Result<Figures, u16> {
     let nets = nets(top, bottom, MOST_COLUMNS)?;
-    let d = density_of(&nets, top.len());
-    if layout.len() < room(top.len(), tracks_of(nets.family(), d)) {
+    let (figures, entries) = draw(top, bottom, &nets);
+    if layout.len() < entries.len() {
         return Err(8);
     }
-    let (figures, entries) = draw(top, bottom, &nets);
     layout[..entries.len()].copy_from_slice(&entries);
     Ok(figures)
 }

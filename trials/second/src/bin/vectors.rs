@@ -1,6 +1,6 @@
 //! Compares the second router, checker and net report with files of worked
-//! cases: `vectors FILE ...`, where the names end in routes.txt, checks.txt,
-//! listings.txt, reports.txt or long.txt. A case ends at an empty line.
+//! cases: `vectors FILE ...`, where the names end in routes.txt, needs.txt,
+//! checks.txt, listings.txt, reports.txt or long.txt. A case ends at an empty line.
 
 use second::{Checked, MOST_NETS};
 use std::process::ExitCode;
@@ -72,11 +72,40 @@ fn route_agrees(case: &[&str]) -> bool {
     let mut drawn = vec![0; need];
     let got = second::route(&top, &bottom, &mut drawn);
     let wanted = second::Figures { density: figures[0], tracks: figures[1], width: figures[2] };
-    drawn.truncate(wanted.width * (2 * wanted.tracks + 1));
     got == Ok(wanted)
         && second::density(&top, &bottom) == Ok(wanted.density)
         && drawing_agrees(case, &drawn)
         && second::check(&top, &bottom, wanted.width, wanted.tracks, &drawn) == Checked::default()
+}
+
+/// Whether the need, or the rows' refusal, and the answers for some slices agree.
+fn need_agrees(case: &[&str]) -> bool {
+    let (top, bottom) = (values(case, "top"), values(case, "bottom"));
+    let wanted = match lines(case, "refused").next() {
+        Some(refused) => Err(refused[0]),
+        None => Ok(values::<usize>(case, "need")[0]),
+    };
+    let slices: Vec<_> = lines::<usize>(case, "slice").collect();
+    second::need(&top, &bottom) == wanted
+        && !slices.is_empty()
+        && slices.iter().all(|slice| slice_agrees(&top, &bottom, slice[0], slice[1]))
+}
+
+/// Whether routing into a slice of some length answers a number, and draws a
+/// solution if that is 0. A refused call leaves the slice as it was, any other what
+/// stands behind the drawing.
+fn slice_agrees(top: &[u16], bottom: &[u16], length: usize, number: usize) -> bool {
+    const KEPT: u16 = 999;
+    let kept = |entries: &[u16]| entries.iter().all(|&entry| entry == KEPT);
+    let mut slice = vec![KEPT; length];
+    match second::route(top, bottom, &mut slice) {
+        Ok(second::Figures { tracks, width, .. }) => {
+            let (drawn, behind) = slice.split_at(width * (2 * tracks + 1));
+            let passed = second::check(top, bottom, width, tracks, drawn) == Checked::default();
+            number == 0 && passed && kept(behind)
+        }
+        Err(refused) => number == refused as usize && kept(&slice),
+    }
 }
 
 /// The width and the tracks of a drawing. A width of -1, one less than no
@@ -144,10 +173,11 @@ fn listing_agrees(case: &[&str]) -> bool {
 fn kind(file: &str) -> fn(&[&str]) -> bool {
     match file {
         _ if file.ends_with("routes.txt") => route_agrees,
+        _ if file.ends_with("needs.txt") => need_agrees,
         _ if file.ends_with("checks.txt") => check_agrees,
         _ if file.ends_with("listings.txt") => listing_agrees,
         _ if file.ends_with("reports.txt") || file.ends_with("long.txt") => report_agrees,
-        _ => panic!("{file}: neither routes, checks, listings nor reports"),
+        _ => panic!("{file}: neither routes, needs, checks, listings nor reports"),
     }
 }
 
