@@ -1,4 +1,4 @@
--- The lowest member of a set above a number; the net that ends last, member by member.
+-- Stores in the table of mates; the lowest member of a set above a number; the net that ends last, member by member; a net apart from two others.
 use Prim.Native.Nat.{ℕ, zero, suc, _+_, _-_, _%_, _≤_, _<_}
 use mathlib.Core.Path.{_≡_, refl, sym, ap, _∙_}
 use mathlib.Core.Bool.{Bool, true, false, _&&_, _||_}

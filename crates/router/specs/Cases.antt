@@ -27,7 +27,7 @@ pub record Case : Type 0 where
 abbrev case : (top bottom : List ℕ) (lent number d t w : ℕ) → Case
 case x y lent number d t w = record { top = x; bottom = y; lent = lent; number = number; figures = record { density = d; tracks = t; width = w } }
 
--- A to K, each with a slice of just the entries that it needs; of J both channels, of D and K the slices of 15 and 14
+-- A to K; of J both channels, of D and K the slices of 15 and 14. Those that are drawn have a slice of just the entries that they need
 unfoldable pub cases : List Case
 cases =
     case [] [] 0 0 0 0 0

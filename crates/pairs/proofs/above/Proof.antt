@@ -1,3 +1,4 @@
+-- `above` meets its contract.
 use native.Mathlib.Omega.{arith}
 use Prim.Native.Nat.{_%_}
 use mathlib.Core.Path.{refl}
@@ -6,19 +7,13 @@ use Rattle.pairs.proofs.Laws.{least-above}
 use borrow.Author.Needs.{needs}
 use Rattle.pairs.proofs.above.Statement.{statement}
 use Rattle.pairs.proofs.above.Tie as tie
-use Rattle.pairs.proofs.above.Reads as reads
-use Rattle.pairs.proofs.above.Lts as lts
-use Rattle.sets.proofs.above.Reads as above-reads
 
--- src/lib.rt:75:6
 above-requires : tie.Need-above-requires
 above-requires c κs = search needs
 
--- src/lib.rt:75:5
 cast-result : tie.Need-cast-result
 cast-result c = search needs
 
--- src/lib.rt:72:1
 returns : tie.Need-returns
 returns c = least-above (c .before .args .s .now) (c .before .args .v % 512) (c .above .result) (c .above .result % 512) (omega arith) (c .above .ensures) refl
 

@@ -1,30 +1,23 @@
+-- `double_at` meets its contract.
 use Rattle.pairs.proofs.Laws.{double-none, double-some}
 use borrow.Author.Needs.{needs}
 use Rattle.pairs.proofs.double_at.Statement.{statement}
 use Rattle.pairs.proofs.double_at.Tie as tie
-use Rattle.pairs.proofs.double_at.Reads as reads
-use Rattle.pairs.proofs.double_at.Lts as lts
-use Rattle.pairs.proofs.entry.Reads as entry-reads
 
--- src/lib.rt:115:9
 returns : tie.Need-returns
 returns c =
     let o = c .before .before .before .before in
     double-none (o .args .last .now) (o .args .low .now) (o .args .high .now) (o .args .v) (c .if1 .taken)
 
--- src/lib.rt:124:14
 entry-requires : tie.Need-entry-requires
 entry-requires c κs = search needs
 
--- src/lib.rt:125:15
 entry-requires-2 : tie.Need-entry-requires-2
 entry-requires-2 c κs = search needs
 
--- src/lib.rt:126:15
 entry-requires-3 : tie.Need-entry-requires-3
 entry-requires-3 c κs = search needs
 
--- src/lib.rt:111:1
 returns-2 : tie.Need-returns-2
 returns-2 c =
     let o = c .before .before .before .before .before .before .before in

@@ -1,3 +1,4 @@
+-- `ending` meets its contract.
 use mathlib.Core.Path.{sym, ap, _∙_}
 use mathlib.Core.Bool.{Bool}
 use Prim.Native.Nat.{ℕ}
@@ -8,22 +9,16 @@ use Rattle.pairs.specs.Working.{endingBy}
 use borrow.Author.Needs.{needs}
 use Rattle.pairs.proofs.ending.Statement.{statement}
 use Rattle.pairs.proofs.ending.Tie as tie
-use Rattle.pairs.proofs.ending.Reads as reads
-use Rattle.pairs.proofs.ending.Lts as lts
-use Rattle.pairs.proofs.entry.Reads as entry-reads
 
--- src/lib.rt:56:12
 entry-requires : tie.Need-entry-requires
 entry-requires c κs = search needs
 
--- src/lib.rt:53:1
 returns : tie.Need-returns
 unfolding endingBy
 returns c =
     let o = c .before .before .before in
     sym (ap (λ (x : ℕ). pick (ltb (o .args .c) x) 0 (o .args .v)) (sym (c .before .entry .ensures)) ∙ ap (λ (b : Bool). pick b 0 (o .args .v)) (lt-ltb (o .args .c) (c .before .entry .result) (c .if1 .taken)))
 
--- src/lib.rt:53:1
 returns-2 : tie.Need-returns-2
 unfolding endingBy
 returns-2 c =

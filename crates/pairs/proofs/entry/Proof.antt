@@ -1,24 +1,19 @@
+-- `entry` meets its contract.
 use mathlib.Core.Path.{sym}
 use lib.ListN.{List·getD-eq-default}
 use borrow.Author.Needs.{needs}
 use Rattle.pairs.proofs.entry.Statement.{statement}
 use Rattle.pairs.proofs.entry.Tie as tie
-use Rattle.pairs.proofs.entry.Reads as reads
-use Rattle.pairs.proofs.entry.Lts as lts
 
--- src/lib.rt:20:26
 mul-result : tie.Need-mul-result
 mul-result c = search needs
 
--- src/lib.rt:20:26
 shared-slice-read-result : tie.Need-shared-slice-read-result
 shared-slice-read-result c = search needs
 
--- src/lib.rt:16:1
 returns : tie.Need-returns
 returns c = search needs
 
--- src/lib.rt:16:1
 returns-2 : tie.Need-returns-2
 returns-2 c = sym (List·getD-eq-default (c .before .args .table .now) 0 (c .if1 .left))
 

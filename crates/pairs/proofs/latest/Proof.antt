@@ -1,3 +1,4 @@
+-- `latest` meets its contract.
 use native.Mathlib.Omega.{arith}
 use Prim.Native.Nat.{ℕ, _-_, _%_, _<_}
 use mathlib.Core.Path.{_≡_, ap, _∙_, subst}
@@ -11,10 +12,6 @@ use Rattle.pairs.proofs.Laws.{reach, latest-none, latest-more, reach-mo
 use borrow.Author.Needs.{needs}
 use Rattle.pairs.proofs.latest.Statement.{statement}
 use Rattle.pairs.proofs.latest.Tie as tie
-use Rattle.pairs.proofs.latest.Reads as reads
-use Rattle.pairs.proofs.latest.Lts as lts
-use Rattle.pairs.proofs.above.Reads as above-reads
-use Rattle.pairs.proofs.later_of.Reads as later-of-reads
 
 abbrev Inv-loop : tie.InvT-loop
 Inv-loop last lone best₀ v₀ best v =
@@ -23,22 +20,18 @@ Inv-loop last lone best₀ v₀ best v =
 abbrev μ-loop : tie.MeasureT-loop
 μ-loop last lone best₀ v₀ best v = 511 - reach v
 
--- src/lib.rt:94:9
 above-requires : tie.Need-above-requires Inv-loop μ-loop
 above-requires c κs = search needs
 
--- src/lib.rt:95:5
 loop-holds : tie.Need-loop-holds Inv-loop μ-loop
 loop-holds c =
     let o = c .before .before in
     let v = c .above in
     (v .ensures .small, (λ n. v .ensures .found n .1), latest-none (λ u. getD (o .args .last .now) u 0) (member (o .args .lone .now)) (v .result) (v .ensures))
 
--- src/lib.rt:96:9
 later-of-requires : tie.Need-later-of-requires Inv-loop μ-loop
 later-of-requires c κs = search needs
 
--- src/lib.rt:97:9
 above-requires-2 : tie.Need-above-requires-2 Inv-loop μ-loop
 above-requires-2 c κs = search needs
 
@@ -50,14 +43,12 @@ from c =
     let e : l .v % 512 ≡ l .v = omega (arith, l .inv .0) in
     subst (λ (z : ℕ). LeastAbove (member (o .args .lone .now)) z (c .above2 .result)) e (c .above2 .ensures)
 
--- src/lib.rt:95:5
 loop-less : tie.Need-loop-less Inv-loop μ-loop
 loop-less c =
     let o = c .before .before .before .before .before .before in
     let l = c .before .before .before .loop in
     reach-more (member (o .args .lone .now)) (l .v) (c .above2 .result) (l .inv .0) (c .before .before .loop-test .taken) (from c)
 
--- src/lib.rt:95:5
 loop-again : tie.Need-loop-again Inv-loop μ-loop
 loop-again c =
     let o = c .before .before .before .before .before .before in
@@ -69,7 +60,6 @@ loop-again c =
           (c .before .later-of .ensures) (from c),
     )
 
--- src/lib.rt:90:1
 returns : tie.Need-returns Inv-loop μ-loop
 returns c =
     let o = c .before .before .before .before in

@@ -1,3 +1,4 @@
+-- `mark` meets its contract.
 use mathlib.Core.Path.{ap₂}
 use Prim.Native.Nat.{ℕ}
 use mathlib.Core.Bool.{_&&_}
@@ -6,30 +7,21 @@ use Rattle.pairs.proofs.Laws.{none-told, put-told}
 use borrow.Author.Needs.{needs}
 use Rattle.pairs.proofs.mark.Statement.{statement}
 use Rattle.pairs.proofs.mark.Tie as tie
-use Rattle.pairs.proofs.mark.Reads as reads
-use Rattle.pairs.proofs.mark.Lts as lts
-use Rattle.pairs.proofs.entry.Reads as entry-reads
-use Rattle.sets.proofs.put.Reads as put-reads
 
--- src/lib.rt:65:9
 returns : tie.Need-returns
 returns c h z =
     let o = c .before .before .before in
     none-told (o .args .many .now) (o .args .mates .now) (o .args .lone .now) (o .args .v) (c .if1 .taken) z
 
--- src/lib.rt:67:14
 entry-requires : tie.Need-entry-requires
 entry-requires c κs = search needs
 
--- src/lib.rt:67:38
 entry-requires-2 : tie.Need-entry-requires-2
 entry-requires-2 c κs = search needs
 
--- src/lib.rt:68:5
 put-requires : tie.Need-put-requires
 put-requires c κs = search needs
 
--- src/lib.rt:60:1
 returns-2 : tie.Need-returns-2
 returns-2 c h z =
     let o = c .before .before .before .before .before .before .before in

@@ -1,3 +1,4 @@
+-- `other` meets its contract.
 use native.Mathlib.Omega.{arith}
 use Rattle.pairs.proofs.Laws.{least-other, least-next}
 use Prim.Native.Nat.{ℕ, _%_}
@@ -8,19 +9,13 @@ use Rattle.pairs.specs.Working.{LeastAbove}
 use borrow.Author.Needs.{needs}
 use Rattle.pairs.proofs.other.Statement.{statement}
 use Rattle.pairs.proofs.other.Tie as tie
-use Rattle.pairs.proofs.other.Reads as reads
-use Rattle.pairs.proofs.other.Lts as lts
-use Rattle.pairs.proofs.above.Reads as above-reads
 
--- src/lib.rt:106:9
 above-requires : tie.Need-above-requires
 above-requires c κs = search needs
 
--- src/lib.rt:107:17
 above-requires-2 : tie.Need-above-requires-2
 above-requires-2 c κs = search needs
 
--- src/lib.rt:103:1
 returns : tie.Need-returns
 returns c =
     let o = c .before .before .before in
@@ -30,7 +25,6 @@ returns c =
     (subst (λ (z : ℕ). LeastAbove (member (o .args .lone .now)) 0 z) (c .before .if1 .taken) (v .ensures))
     (subst (λ (z : ℕ). LeastAbove (member (o .args .lone .now)) z (c .above2 .result)) e (c .above2 .ensures))
 
--- src/lib.rt:103:1
 returns-2 : tie.Need-returns-2
 returns-2 c =
     let o = c .before .before in

@@ -1,52 +1,36 @@
+-- `renew` meets its contract.
 use Rattle.pairs.proofs.Renewal.{renewed-by, tells-all}
 use borrow.Author.Needs.{needs}
 use Rattle.pairs.proofs.renew.Statement.{statement}
 use Rattle.pairs.proofs.renew.Tie as tie
-use Rattle.pairs.proofs.renew.Reads as reads
-use Rattle.pairs.proofs.renew.Lts as lts
-use Rattle.pairs.proofs.ending.Reads as ending-reads
-use Rattle.pairs.proofs.mark.Reads as mark-reads
-use Rattle.pairs.proofs.mark_three.Reads as mark-three-reads
-use Rattle.pairs.proofs.pair_up.Reads as pair-up-reads
-use Rattle.pairs.proofs.unpair.Reads as unpair-reads
 
--- src/lib.rt:99:27
 ending-requires : tie.Need-ending-requires
 ending-requires c κs = search needs
 
--- src/lib.rt:99:9
 unpair-requires : tie.Need-unpair-requires
 unpair-requires c κs = search needs
 
--- src/lib.rt:100:27
 ending-requires-2 : tie.Need-ending-requires-2
 ending-requires-2 c κs = search needs
 
--- src/lib.rt:100:9
 unpair-requires-2 : tie.Need-unpair-requires-2
 unpair-requires-2 c κs = search needs
 
--- src/lib.rt:101:5
 pair-up-requires : tie.Need-pair-up-requires
 pair-up-requires c κs = search needs
 
--- src/lib.rt:102:5
 mark-three-requires : tie.Need-mark-three-requires
 mark-three-requires c κs = search needs
 
--- src/lib.rt:103:5
 mark-three-requires-2 : tie.Need-mark-three-requires-2
 mark-three-requires-2 c κs = search needs
 
--- src/lib.rt:104:5
 mark-requires : tie.Need-mark-requires
 mark-requires c κs = search needs
 
--- src/lib.rt:83:1
 same-length : tie.Need-same-length
 same-length c = search needs
 
--- src/lib.rt:83:1
 returns : tie.Need-returns
 returns c =
     let o = c .before .before .before .before .before .before .before .before .before .before .before .before .before .before .before .before .before .before .before .before .before .before .before .before .before .before in

@@ -1,28 +1,22 @@
+-- `store` meets its contract.
 use mathlib.Core.Path.{sym}
 use Rattle.pairs.proofs.Laws.{set-past}
 use borrow.Author.Needs.{needs}
 use Rattle.pairs.proofs.store.Statement.{statement}
 use Rattle.pairs.proofs.store.Tie as tie
-use Rattle.pairs.proofs.store.Reads as reads
-use Rattle.pairs.proofs.store.Lts as lts
 
--- src/lib.rt:29:9
 mul-table : tie.Need-mul-table
 mul-table c = search needs
 
--- src/lib.rt:29:9
 slice-write-table : tie.Need-slice-write-table
 slice-write-table c = search needs
 
--- src/lib.rt:24:1
 same-length : tie.Need-same-length
 same-length c = search needs
 
--- src/lib.rt:24:1
 returns : tie.Need-returns
 returns c = search needs
 
--- src/lib.rt:24:1
 returns-2 : tie.Need-returns-2
 returns-2 c = sym (set-past (c .before .args .table .now) (c .before .args .v) (c .before .args .x) (c .if1 .left))
 
