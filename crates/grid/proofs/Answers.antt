@@ -1,22 +1,22 @@
 -- The row check's answer in each of its cases, and what an answer says of the rows. Assumes nothing.
 use Prim.Native.Nat.{ℕ, zero, suc, _≤_, _<_, min}
-use mathlib.Core.Path.{_≡_, refl, sym, ap, _∙_}
-use mathlib.Core.Bool.{true, false, _||_}
+use mathlib.Core.Path.{_≡_, refl, sym, ap, ap₂, _∙_}
+use mathlib.Core.Bool.{Bool, true, false, not, _||_}
 use mathlib.Core.Logic.{_≢_}
 use mathlib.Core.List.{List}
 use native.Mathlib.Omega.{arith}
-use lib.Dec.{eqb}
+use lib.Dec.{eqb, ltb}
 use lib.ListN.{length}
 use Rattle.grid.specs.declared.RowCheck.{RowCheck}
 use Rattle.grid.specs.declared.RowCheck.the-variants.{Fit, Refused}
 use Rattle.grid.specs.declared.Size.{Size}
 use Rattle.grid.specs.declared.DensityCount.{DensityCount}
 use Rattle.grid.specs.declared.DensityCount.the-variants as dc
-use Rattle.grid.specs.Channel.{over, pins, family, density, rowsRefused}
+use Rattle.grid.specs.Channel.{pick, over, pins, family, density, rowsRefused}
 use Rattle.grid.specs.Refusals.{firstRefusal, ifAccepted}
 use Rattle.grid.specs.Answers.{numberOf, noSize, sizeOf, checkOf, countNumber, countDensity, countOf, refusedWithin, acceptedSize, rowCheck, densityCount}
-use Rattle.grid.specs.Working.{someTo}
-use Rattle.grid.proofs.Tests.{eq-eqb, ne-eqb, lt-ltb, le-ltb}
+use Rattle.grid.specs.Working.{sizesRefused, Rows, someTo}
+use Rattle.grid.proofs.Tests.{eqb-true, ltb-false, not-false, eq-eqb, ne-eqb, lt-ltb, le-ltb, or-false, pick-past}
 use Rattle.grid.proofs.Rows.{rows-more}
 
 -- THE FIRST NUMBER of a place and of the places after it
@@ -36,50 +36,69 @@ pub no-later : (k : ℕ) → firstRefusal k 0 ≡ k
 no-later zero = refl
 no-later (suc k) = refl
 
+-- REFUSALS 4 TO 6
+
+module _ (top bottom : List ℕ) (most : ℕ) where
+  -- lengths that differ
+  pub case-4 : length top ≢ length bottom → 4 ≡ sizesRefused top bottom most
+  unfolding sizesRefused
+  case-4 h = simp (ne-eqb (length top) (length bottom) h)
+
+  module _ (e : length top ≡ length bottom) where
+    -- too many columns
+    pub case-5 : most < length top → 5 ≡ sizesRefused top bottom most
+    unfolding sizesRefused
+    case-5 h = simp (eq-eqb (length top) (length bottom) e, lt-ltb most (length top) h)
+
+    -- whether there is a number over 256
+    pub case-6 : length top ≤ most → (q : Bool) → (over top || over bottom) ≡ q → pick q 6 0 ≡ sizesRefused top bottom most
+    unfolding sizesRefused
+    case-6 l q o = simp (eq-eqb (length top) (length bottom) e, le-ltb most (length top) l, o)
+
+  -- the rows that they leave
+  pub rows-left : most ≤ 256 → sizesRefused top bottom most ≡ 0 → Rows top bottom
+  unfolding sizesRefused
+  rows-left l e =
+      let (a, e₁) = pick-past (not (eqb (length top) (length bottom))) 4 _ 0 (omega arith) e in
+      let (b, e₂) = pick-past (ltb most (length top)) 5 _ 0 (omega arith) e₁ in
+      let (c, e₃) = pick-past (over top || over bottom) 6 0 0 (omega arith) e₂ in
+      let (p, q) = or-false (over top) (over bottom) c in
+      record { same = eqb-true (length top) (length bottom) (not-false _ a); short = omega (arith, ltb-false most (length top) b); above = p; below = q }
+
+  -- refusal 7 comes after them
+  pub after-sizes : rowsRefused top bottom most ≡ firstRefusal (sizesRefused top bottom most) (pick (someTo (λ v. eqb (pins top bottom v) 1) 256) 7 0)
+  unfolding rowsRefused sizesRefused
+  after-sizes = go (not (eqb (length top) (length bottom))) (ltb most (length top)) (over top || over bottom) _
+    where
+      go : (a b c : Bool) (k : ℕ) → pick a 4 (pick b 5 (pick c 6 k)) ≡ firstRefusal (pick a 4 (pick b 5 (pick c 6 0))) k
+      go true b c k = refl
+      go false true c k = refl
+      go false false true k = refl
+      go false false false k = refl
+
 -- THE CASES
 
 module _ (top bottom : List ℕ) (most : ℕ) where
-  -- the answer with a number
-  refused-by : (k : ℕ) → refusedWithin top bottom most ≡ suc k → Refused (suc k) ≡ rowCheck top bottom most
-  unfolding rowCheck
-  refused-by k e = sym (ap (λ (n : ℕ). checkOf n (acceptedSize top bottom)) e)
+  -- the number of refusals 4 to 6 where one applies
+  pub case-sizes : (k : ℕ) → k ≡ sizesRefused top bottom (min most 256) → k ≢ 0 → k ≡ refusedWithin top bottom most
+  case-sizes k e n =
+      let later : ℕ = pick (someTo (λ v. eqb (pins top bottom v) 1) 256) 7 0 in
+      sym (after-sizes top bottom (min most 256) ∙ ap (λ (z : ℕ). firstRefusal z later) (sym e) ∙ first-here k later n)
 
-  -- and what else is asked of accepted rows
-  pub refused-with : {A : Type 0} (k : ℕ) → refusedWithin top bottom most ≡ suc k → (Refused (suc k) ≡ rowCheck top bottom most) × (refusedWithin top bottom most ≡ 0 → A)
-  refused-with k e = (refused-by k e, λ z. absurd (omega arith))
+  -- else whether a net has one pin
+  pub case-7 : sizesRefused top bottom (min most 256) ≡ 0 → (q : Bool) → someTo (λ v. eqb (pins top bottom v) 1) 256 ≡ q → pick q 7 0 ≡ refusedWithin top bottom most
+  case-7 e q o = sym (after-sizes top bottom (min most 256) ∙ ap₂ (λ (z : ℕ) (q : Bool). firstRefusal z (pick q 7 0)) e o)
+
+  -- the answer with a number, and what else is asked of accepted rows
+  pub refused-with : {A : Type 0} (k : ℕ) → k ≢ 0 → k ≡ refusedWithin top bottom most → (Refused k ≡ rowCheck top bottom most) × (refusedWithin top bottom most ≡ 0 → A)
+  unfolding rowCheck
+  refused-with zero n e = absurd (n refl)
+  refused-with (suc k) n e = (ap (λ (n : ℕ). checkOf n (acceptedSize top bottom)) e, λ z. absurd (omega arith))
 
   -- and with none
   pub fit-by : refusedWithin top bottom most ≡ 0 → Fit (acceptedSize top bottom) ≡ rowCheck top bottom most
   unfolding rowCheck
   fit-by e = sym (ap (λ (n : ℕ). checkOf n (acceptedSize top bottom)) e)
-
-  -- lengths that differ
-  pub case-4 : length top ≢ length bottom → refusedWithin top bottom most ≡ 4
-  unfolding rowsRefused
-  case-4 h = simp (ne-eqb (length top) (length bottom) h)
-
-  module _ (e : length top ≡ length bottom) where
-    -- too many columns
-    pub case-5 : min most 256 < length top → refusedWithin top bottom most ≡ 5
-    unfolding rowsRefused
-    case-5 h = simp (eq-eqb (length top) (length bottom) e, lt-ltb (min most 256) (length top) h)
-
-    module _ (l : length top ≤ min most 256) where
-      -- a number over 256
-      pub case-6 : (over top || over bottom) ≡ true → refusedWithin top bottom most ≡ 6
-      unfolding rowsRefused
-      case-6 h = simp (eq-eqb (length top) (length bottom) e, le-ltb (min most 256) (length top) l, h)
-
-      module _ (o : (over top || over bottom) ≡ false) where
-        -- a net with one pin
-        pub case-7 : someTo (λ v. eqb (pins top bottom v) 1) 256 ≡ true → refusedWithin top bottom most ≡ 7
-        unfolding rowsRefused
-        case-7 h = simp (eq-eqb (length top) (length bottom) e, le-ltb (min most 256) (length top) l, o, h)
-
-        -- none of these
-        pub case-0 : someTo (λ v. eqb (pins top bottom v) 1) 256 ≡ false → refusedWithin top bottom most ≡ 0
-        unfolding rowsRefused
-        case-0 h = simp (eq-eqb (length top) (length bottom) e, le-ltb (min most 256) (length top) l, o, h)
 
 -- NUMBER AND FIGURES
 

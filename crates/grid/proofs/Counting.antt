@@ -3,7 +3,7 @@ use Prim.Native.Nat.{ℕ, zero, suc, _+_, _*_, _≤_, _<_, zero-le}
 use mathlib.Core.Path.{_≡_, refl, sym, _∙_}
 use mathlib.Core.Logic.{_≢_, ⊎-elim}
 use mathlib.Core.Bool.{Bool, true, false}
-use mathlib.Core.List.{List, [], _∷_}
+use mathlib.Core.List.{List, [], _∷_, _++_}
 use native.Mathlib.Omega.{arith}
 use native.Mathlib.Decide.{decLt, ℕ-discrete}
 use lib.Dec.{eqb}
@@ -12,6 +12,12 @@ use Rattle.grid.specs.Channel.{bit, times, sum, count}
 use Rattle.grid.proofs.Tests.{eqBit, eqb-same, eqb-diff, bit-none, bit-le}
 
 -- HOW OFTEN A NUMBER STANDS IN A LIST
+
+-- in two lists, one behind the other
+pub times-append : (v : ℕ) (a b : List ℕ) → times v (a ++ b) ≡ times v a + times v b
+unfolding times
+times-append v [] b = omega arith
+times-append v (x ∷ a) b = omega (arith, times-append v a b)
 
 -- one more entry; past the list's end there is none
 pub times-take : (N : ℕ) (l : List ℕ) (k : ℕ) → N ≢ 0 → times N (take (suc k) l) ≡ times N (take k l) + bit (eqb (getD l k 0) N)

@@ -2,19 +2,13 @@
 use Prim.Native.Nat.{ℕ, suc, _+_, _≤_}
 use native.Mathlib.Omega.{arith}
 use mathlib.Core.Path.{_≡_}
-use mathlib.Core.List.{List, [], _∷_, _++_}
+use mathlib.Core.List.{List, _++_}
 use lib.Dec.{ltb}
 use lib.ListN.{length, take, drop, length-append, length-take, length-drop}
-use Rattle.grid.specs.Channel.{left, right, isOpen, openAt, density, times}
+use Rattle.grid.specs.Channel.{left, right, isOpen, openAt, density}
 use Rattle.grid.proofs.Tests.{ltb-true, and-true}
-use Rattle.grid.proofs.Counting.{pigeonhole}
+use Rattle.grid.proofs.Counting.{times-append, pigeonhole}
 use Rattle.grid.proofs.Rows.{density-most}
-
--- the pins in two lists are those in both
-times-append : (v : ℕ) (a b : List ℕ) → times v (a ++ b) ≡ times v a + times v b
-unfolding times
-times-append v [] b = omega arith
-times-append v (x ∷ a) b = omega (arith, times-append v a b)
 
 module _ (top bottom : List ℕ) (same : length top ≡ length bottom) where
   -- each open net has a pin left of the gap

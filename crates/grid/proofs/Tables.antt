@@ -59,9 +59,13 @@ cleared f l h = ext-getD 0 (set l 0 0) (table f) (simp length-set (h .size ∙ s
         let z : length (set l 0 0) ≡ 257 = simp length-set (h .size) in
         getD-set-other l 0 (suc i) 0 0 (λ y. let x : ⊥ = omega arith in x) ∙ h .at (suc i) (omega arith) (omega arith) ∙ sym (table-at f (suc i) (omega arith) (omega arith))
 
--- a test over a table is the test over the figures
+-- a test over figures at the nets' numbers is the test over the figures
+pub net-some : (q : ℕ → Bool) (f : ℕ → ℕ) (l : List ℕ) → ByNet f l → someTo (λ v. q (getD l v 0)) 256 ≡ someTo (λ v. q (f v)) 256
+net-some q f l h = some-same (λ v. q (getD l v 0)) (λ v. q (f v)) 256 (λ v a b. ap q (h .at v a b))
+
+-- so over a table
 pub table-some : (q : ℕ → Bool) (f : ℕ → ℕ) (l : List ℕ) → l ≡ table f → someTo (λ v. q (getD l v 0)) 256 ≡ someTo (λ v. q (f v)) 256
-table-some q f l e = some-same (λ v. q (getD l v 0)) (λ v. q (f v)) 256 (λ v a b. ap q (at-net f l e v a b))
+table-some q f l e = net-some q f l (record { size = ap length e ∙ table-length f; at = at-net f l e })
 
 -- zeros are 257 places
 pub zero-table-length : (l : List ℕ) → l ≡ zeroTable → length l ≡ 257
@@ -96,74 +100,57 @@ two-pins l p q c v hp hq =
     go true false old = refl
     go false b old = refl
 
--- THE PASS FROM THE LEFT
-
--- the tables once the columns 1 to i are noted
-pub record Noted (top bottom : List ℕ) (i : ℕ) (last counts : List ℕ) : Type 0 where
-  pub lasts : ByNet (λ v. lastTo top bottom v i) last
-  pub counted : ByNet (left top bottom i) counts
-  pub few : (v : ℕ) → getD counts v 0 ≤ 2 * i
-
--- no column is noted in zeros
-pub noted-none : (top bottom last counts : List ℕ) → last ≡ zeroTable → counts ≡ zeroTable → Noted top bottom 0 last counts
-unfolding zeroTable lastTo
-noted-none top bottom last counts a b = record {
-  lasts = record { size = zero-table-length last a; at = λ v p q. rw a (zeros 257 v) };
-  counted = record { size = zero-table-length counts b; at = λ v p q. rw b (zeros 257 v ∙ sym (before top bottom v)) };
-  few = λ v. rw b (omega (arith, zeros 257 v));
-}
+-- PINS COUNTED
 
 -- after a pin of net p
 abbrev pub tallied : List ℕ → ℕ → List ℕ
 tallied l p = set l p (getD l p 0 + 1)
 
--- a net's place in the tables, and room for one pin more
-abbrev pub PinRoom : (last counts : List ℕ) (net : ℕ) → Type 0
-PinRoom last counts net = (net < length last) × (net < length counts) × (getD counts net 0 < 1024)
+-- the table once the pins of the columns 1 to i are counted
+pub record Counted (top bottom : List ℕ) (i : ℕ) (counts : List ℕ) : Type 0 where
+  pub nets : ByNet (left top bottom i) counts
+  pub few : (v : ℕ) → getD counts v 0 ≤ 2 * i
 
-module _ (top bottom : List ℕ) (i : ℕ) (last counts : List ℕ) (n : Noted top bottom i last counts) where
-  -- all columns are noted
-  pub noted-all : i ≡ length top → length top ≡ length bottom → ByNet (lastColumn top bottom) last × ByNet (pins top bottom) counts
-  unfolding lastColumn
-  noted-all e s = (
-    record { size = n .lasts .size; at = λ v a b. n .lasts .at v a b ∙ ap (lastTo top bottom v) e },
-    record {
-      size = n .counted .size;
-      at = λ v a b. n .counted .at v a b ∙ ap (λ (x : ℕ). left top bottom x v) e ∙ omega (arith, left-right top bottom v (length top), no-right top bottom v (omega arith));
-    },
-  )
+-- none is counted in zeros
+pub counted-none : (top bottom counts : List ℕ) → counts ≡ zeroTable → Counted top bottom 0 counts
+unfolding zeroTable
+counted-none top bottom counts e = record {
+  nets = record { size = zero-table-length counts e; at = λ v p q. rw e (zeros 257 v ∙ sym (before top bottom v)) };
+  few = λ v. rw e (omega (arith, zeros 257 v));
+}
 
-  module _ (few : i < 256) (p : ℕ) (hp : p ≤ 256) where
+-- a net's place in the table, and room for one pin more
+abbrev pub PinRoom : (counts : List ℕ) (net : ℕ) → Type 0
+PinRoom counts net = (net < length counts) × (getD counts net 0 < 1024)
+
+module _ (top bottom : List ℕ) (i : ℕ) (counts : List ℕ) (n : Counted top bottom i counts) where
+  -- all columns are counted
+  pub counted-all : i ≡ length top → length top ≡ length bottom → ByNet (pins top bottom) counts
+  counted-all e s = record {
+    size = n .nets .size;
+    at = λ v a b. n .nets .at v a b ∙ ap (λ (x : ℕ). left top bottom x v) e ∙ omega (arith, left-right top bottom v (length top), no-right top bottom v (omega arith));
+  }
+
+  module _ (short : i < 256) (p : ℕ) (hp : p ≤ 256) where
     -- room for the column's first pin
-    pub first-pin-room : PinRoom last counts p
-    first-pin-room = (omega (arith, n .lasts .size), omega (arith, n .counted .size), omega (arith, n .few p))
+    pub first-pin-room : PinRoom counts p
+    first-pin-room = (omega (arith, n .nets .size), omega (arith, n .few p))
 
-    module _ (q c : ℕ) (hq : q ≤ 256) (l₁ k₁ : List ℕ) (el : l₁ ≡ set last p c) (ek : k₁ ≡ tallied counts p) where
+    module _ (q : ℕ) (hq : q ≤ 256) (k₁ : List ℕ) (e : k₁ ≡ tallied counts p) where
       -- and for its second
-      pub second-pin-room : PinRoom l₁ k₁ q
+      pub second-pin-room : PinRoom k₁ q
       second-pin-room =
-          let t = ap (λ (m : List ℕ). getD m q 0) ek ∙ tallied-at counts p q (omega (arith, n .counted .size)) in
-          let y : length l₁ ≡ 257 = ap length el ∙ simp length-set (n .lasts .size) in
-          let z : length k₁ ≡ 257 = ap length ek ∙ simp length-set (n .counted .size) in
-          (omega arith, omega arith, omega (arith, n .few q, bit-most (eqb p q)))
+          let t = ap (λ (m : List ℕ). getD m q 0) e ∙ tallied-at counts p q (omega (arith, n .nets .size)) in
+          let z : length k₁ ≡ 257 = ap length e ∙ simp length-set (n .nets .size) in
+          (omega arith, omega (arith, n .few q, bit-most (eqb p q)))
 
-      -- both pins of column i + 1 are noted
-      pub noted-column : (l₂ k₂ : List ℕ) → l₂ ≡ set l₁ q c → k₂ ≡ tallied k₁ q → c ≡ i + 1 → p ≡ getD top i 0 → q ≡ getD bottom i 0 → Noted top bottom (i + 1) l₂ k₂
-      unfolding lastTo isPinned
-      noted-column l₂ k₂ gl gk ec ep eq = record {
-        lasts = record {
-          size = ap length twice ∙ simp length-set (n .lasts .size);
+      -- both pins of column i + 1 are counted
+      pub counted-column : (k₂ : List ℕ) → k₂ ≡ tallied k₁ q → p ≡ getD top i 0 → q ≡ getD bottom i 0 → Counted top bottom (i + 1) k₂
+      counted-column k₂ g ep eq = record {
+        nets = record {
+          size = ap length g ∙ simp length-set (ap length e ∙ simp length-set (n .nets .size));
           at = λ v a b.
-              ap (λ (m : List ℕ). getD m v 0) twice
-              ∙ two-pins last p q c v (omega (arith, n .lasts .size)) (omega (arith, n .lasts .size))
-              ∙ ap₂ (λ (c z : ℕ). pick (eqb p v || eqb q v) c z) (ec ∙ add-one i) (n .lasts .at v a b)
-              ∙ ap₂ (λ (x y : ℕ). pick (eqb x v || eqb y v) (suc i) (lastTo top bottom v i)) ep eq
-              ∙ ap (lastTo top bottom v) (sym (add-one i));
-        };
-        counted = record {
-          size = ap length gk ∙ simp length-set (ap length ek ∙ simp length-set (n .counted .size));
-          at = λ v a b.
-              let e = n .counted .at v a b in
+              let l = n .nets .at v a b in
               let m = left-suc top bottom v i (omega arith) in
               let bp = ap (λ (x : ℕ). bit (eqb x v)) ep in
               let bq = ap (λ (x : ℕ). bit (eqb x v)) eq in
@@ -173,14 +160,49 @@ module _ (top bottom : List ℕ) (i : ℕ) (last counts : List ℕ) (n : Noted t
         few = λ v. omega (arith, two v, n .few v, bit-most (eqb p v), bit-most (eqb q v));
       }
         where
-          twice : l₂ ≡ set (set last p c) q c
-          twice = gl ∙ ap (λ (l : List ℕ). set l q c) el
-
           two : (v : ℕ) → getD k₂ v 0 ≡ getD counts v 0 + bit (eqb p v) + bit (eqb q v)
           two v =
-              ap (λ (m : List ℕ). getD m v 0) (gk ∙ ap (λ (l : List ℕ). tallied l q) ek)
-              ∙ tallied-at (tallied counts p) q v (simp length-set (omega (arith, n .counted .size)))
-              ∙ ap (λ (z : ℕ). z + bit (eqb q v)) (tallied-at counts p v (omega (arith, n .counted .size)))
+              ap (λ (m : List ℕ). getD m v 0) (g ∙ ap (λ (l : List ℕ). tallied l q) e)
+              ∙ tallied-at (tallied counts p) q v (simp length-set (omega (arith, n .nets .size)))
+              ∙ ap (λ (z : ℕ). z + bit (eqb q v)) (tallied-at counts p v (omega (arith, n .nets .size)))
+
+-- THE PASS FROM THE LEFT
+
+-- the table of last columns once the columns 1 to i are noted
+abbrev pub Noted : (top bottom : List ℕ) (i : ℕ) (last : List ℕ) → Type 0
+Noted top bottom i last = ByNet (λ v. lastTo top bottom v i) last
+
+-- no column is noted in zeros
+pub noted-none : (top bottom last : List ℕ) → last ≡ zeroTable → Noted top bottom 0 last
+unfolding zeroTable lastTo
+noted-none top bottom last e = record { size = zero-table-length last e; at = λ v p q. rw e (zeros 257 v) }
+
+module _ (top bottom : List ℕ) (i : ℕ) (last : List ℕ) (n : Noted top bottom i last) where
+  -- all columns are noted
+  pub noted-all : i ≡ length top → ByNet (lastColumn top bottom) last
+  unfolding lastColumn
+  noted-all e = record { size = n .size; at = λ v a b. n .at v a b ∙ ap (lastTo top bottom v) e }
+
+  module _ (p q c : ℕ) (hp : p ≤ 256) (hq : q ≤ 256) (l₁ : List ℕ) (e : l₁ ≡ set last p c) where
+    -- the table after the column's first pin has the second's place
+    pub second-place : q < length l₁
+    second-place = let z : length l₁ ≡ 257 = ap length e ∙ simp length-set (n .size) in omega arith
+
+    -- both pins of column i + 1 are noted
+    pub noted-column : (l₂ : List ℕ) → l₂ ≡ set l₁ q c → c ≡ i + 1 → p ≡ getD top i 0 → q ≡ getD bottom i 0 → Noted top bottom (i + 1) l₂
+    unfolding lastTo isPinned
+    noted-column l₂ g ec ep eq = record {
+      size = ap length twice ∙ simp length-set (n .size);
+      at = λ v a b.
+          ap (λ (m : List ℕ). getD m v 0) twice
+          ∙ two-pins last p q c v (omega (arith, n .size)) (omega (arith, n .size))
+          ∙ ap₂ (λ (c z : ℕ). pick (eqb p v || eqb q v) c z) (ec ∙ add-one i) (n .at v a b)
+          ∙ ap₂ (λ (x y : ℕ). pick (eqb x v || eqb y v) (suc i) (lastTo top bottom v i)) ep eq
+          ∙ ap (lastTo top bottom v) (sym (add-one i));
+    }
+      where
+        twice : l₂ ≡ set (set last p c) q c
+        twice = g ∙ ap (λ (l : List ℕ). set l q c) e
 
 -- THE PASS FROM THE RIGHT
 

@@ -1,12 +1,20 @@
 -- What the private functions of the row check promise each other. No promise of a public call rests on these.
 use Prim.Native.Nat.{ℕ, _+_, _≤_}
 use mathlib.Core.Path.{_≡_}
-use mathlib.Core.Bool.{Bool, false, not, _&&_}
+use mathlib.Core.Bool.{Bool, false, not, _&&_, _||_}
 use mathlib.Core.List.{List}
-use lib.Dec.{eqb}
+use lib.Dec.{eqb, ltb}
 use lib.ListN.{length, getD}
 use Rattle.grid.specs.Channel.{pick, bit, over, count, pins}
 use Rattle.grid.specs.Nets.{firstColumn, lastColumn, table}
+
+-- the number of the first of the rows' refusals 4 to 6, in the words of `rowsRefused`; 0 for none
+unfoldable pub sizesRefused : (top bottom : List ℕ) (most : ℕ) → ℕ
+sizesRefused top bottom most =
+    pick (not (eqb (length top) (length bottom))) 4
+    (pick (ltb most (length top)) 5
+    (pick (over top || over bottom) 6
+    0))
 
 -- rows that refusals 4 to 6 leave
 pub record Rows (top bottom : List ℕ) : Type 0 where

@@ -5,12 +5,13 @@ mod scan;
 mod spans;
 
 ghost use mathlib.Core.Path.{_≡_};
+ghost use Prim.Native.Nat.{min};
 ghost use Rattle.grid.specs.Channel.{over, pins as pinsOf};
 ghost use Rattle.grid.specs.Nets.{firstColumn, lastColumn, table, zeroTable};
 ghost use Rattle.grid.specs.Refusals.{ifAccepted};
 ghost use Rattle.grid.specs.Channel.{rowsRefused, density as densityOf};
 ghost use Rattle.grid.specs.Answers.{numberOf, sizeOf, noSize, countNumber, countDensity, refusedWithin, acceptedSize, rowCheck, densityCount};
-ghost use Rattle.grid.specs.Working.{Filled};
+ghost use Rattle.grid.specs.Working.{Filled, sizesRefused};
 ghost use Rattle.grid.specs.View.{noPart, columnPart, columnView};
 
 // The families of channels, each with a sweep of its own: each net has two pins; the largest has three, and none of these has its first two pins in one
@@ -74,6 +75,22 @@ pub fn zeros() -> [u16; 257]
     [0u16; 257]
 }
 
+// Refusals 4 to 6 of the rows: lengths that differ, too many columns, a number over 256. 0 for none.
+fn sizes_refusal(top: &[u16], bottom: &[u16], most: usize) -> u16
+    ensures { λ r. ⌜ r ≡ sizesRefused (now (top .entry)) (now (bottom .entry)) (min most 256) ⌝ }
+{
+    if top.len() != bottom.len() {
+        return 4;
+    }
+    if scan::limit(most) < top.len() {
+        return 5;
+    }
+    if scan::has_over(top) | scan::has_over(bottom) {
+        return 6;
+    }
+    0
+}
+
 // The row check, with three tables of zeros for its work. Of accepted rows they hold the facts of each net after it.
 fn checked(
     top: &[u16],
@@ -88,14 +105,9 @@ fn checked(
     ensures tables { λ r. ⌜ (refusedWithin (now (top .entry)) (now (bottom .entry)) most ≡ 0
         → Filled (now (top .entry)) (now (bottom .entry)) (now (first .exit)) (now (last .exit)) (now (pins .exit))) ⌝ }
 {
-    if top.len() != bottom.len() {
-        return RowCheck::Refused(4);
-    }
-    if scan::limit(most) < top.len() {
-        return RowCheck::Refused(5);
-    }
-    if scan::has_over(top) | scan::has_over(bottom) {
-        return RowCheck::Refused(6);
+    let k = sizes_refusal(top, bottom, most);
+    if k != 0 {
+        return RowCheck::Refused(k);
     }
     spans::fill(top, bottom, first, last, pins);
     let tests = scan::tests(pins);
@@ -119,6 +131,20 @@ pub fn check_rows(top: &[u16], bottom: &[u16], most: usize) -> RowCheck
     let mut last = zeros();
     let mut pins = zeros();
     checked(top, bottom, most, &mut first, &mut last, &mut pins)
+}
+
+// The row check's number alone, 0 for none. It counts no density and finds no family.
+pub fn rows_refusal(top: &[u16], bottom: &[u16], most: usize) -> u16
+    ensures { λ r. ⌜ r ≡ refusedWithin (now (top .entry)) (now (bottom .entry)) most ⌝ }
+{
+    let k = sizes_refusal(top, bottom, most);
+    if k != 0 {
+        return k;
+    }
+    let mut pins = zeros();
+    spans::count_pins(top, bottom, &mut pins);
+    let tests = scan::tests(&pins);
+    if tests.single { 7 } else { 0 }
 }
 
 // The row check, and the first column, last column and pin count of each net, at its number, of accepted rows. Refused rows leave the tables as they are.

@@ -1,4 +1,4 @@
-// First column, last column and pin count of each net, in two passes over the rows: one from the left and one from the right.
+// First column, last column and pin count of each net, in two passes over the rows: one from the left and one from the right. Or the pin count alone, in one.
 ghost use mathlib.Core.Path.{_≡_};
 ghost use Prim.Native.Nat.{_+_, _<_};
 ghost use lib.ListN.{length, getD, set};
@@ -13,6 +13,27 @@ pub(crate) fn as_index(x: u16) -> usize
     x as usize
 }
 
+// Counts a pin of a net.
+fn count_pin(net: usize, pins: &mut [u16])
+    requires { ⌜ (net < length (now pins)) × (getD (now pins) net 0 < 1024) ⌝ }
+    ensures { λ _. ⌜ now (pins .exit) ≡ set (now (pins .entry)) net (getD (now (pins .entry)) net 0 + 1) ⌝ }
+{
+    pins[net] = pins[net] + 1;
+}
+
+// Counts the pins of each net in a table of zeros. At 0 stands anything after it.
+pub(crate) fn count_pins(top: &[u16], bottom: &[u16], pins: &mut [u16])
+    requires { ⌜ Rows (now top) (now bottom) × (now pins ≡ zeroTable) ⌝ }
+    ensures { λ _. ⌜ ByNet (pinsOf (now (top .entry)) (now (bottom .entry))) (now (pins .exit)) ⌝ }
+{
+    let mut i = 0;
+    while i < top.len() {
+        count_pin(as_index(top[i]), pins);
+        count_pin(as_index(bottom[i]), pins);
+        i += 1;
+    }
+}
+
 // Notes a pin of a net in column c.
 fn note(net: usize, c: u16, last: &mut [u16], pins: &mut [u16])
     requires { ⌜ (net < length (now last)) × (net < length (now pins)) × (getD (now pins) net 0 < 1024) ⌝ }
@@ -20,7 +41,7 @@ fn note(net: usize, c: u16, last: &mut [u16], pins: &mut [u16])
     ensures pins { λ _. ⌜ now (pins .exit) ≡ set (now (pins .entry)) net (getD (now (pins .entry)) net 0 + 1) ⌝ }
 {
     last[net] = c;
-    pins[net] = pins[net] + 1;
+    count_pin(net, pins);
 }
 
 // Notes the last column and the pin count of each net, from the left.

@@ -9,8 +9,7 @@ use lib.ListN.{length, getD, drop}
 use Rattle.grid.specs.declared.Family.{Family}
 use Rattle.grid.specs.declared.Family.the-variants.{TwoPin, ThreePin, ManyPin}
 use Rattle.grid.specs.Channel.{density, tracks, family, pins, rowsRefused}
-use Rattle.grid.proofs.Rows.{rows-fit, rows-more, two-density, three-density, many-density}
-use Rattle.grid.proofs.Answers.{case-5}
+use Rattle.grid.proofs.Rows.{rows-fit, rows-short, rows-more, two-density, three-density, many-density}
 use Rattle.grid.proofs.Counting.{at-below}
 use Rattle.grid.proofs.Crossing.{density-few}
 use Rattle.router.specs.declared.Figures.{Figures}
@@ -23,8 +22,9 @@ use Rattle.router.proofs.Answered.{passes, refuses, written-drawn, written-leng
 use Rattle.listing.specs.declared.Listed.the-variants as listed
 use Rattle.listing.specs.Text.{drawingText}
 use Rattle.listing.specs.Listing.{channelText}
-use Rattle.listing.specs.Working.{Room, PutOver, Lists}
-use Rattle.listing.proofs.Put.{put-laid, counted}
+use Rattle.record.specs.Working.{Room, PutOver}
+use Rattle.listing.specs.Working.{Lists}
+use Rattle.record.proofs.Put.{put-laid, counted}
 use Rattle.listing.proofs.Front.{drawn-front}
 use Rattle.listing.proofs.Size.{drawn-room, figures-few}
 
@@ -64,11 +64,7 @@ module _ (top bottom : List ℕ) where
 
     -- they have at most 64 columns
     short : length top ≤ 64
-    short = go (decLt 64 (length top))
-      where
-        go : Dec (64 < length top) → length top ≤ 64
-        go (yes h) = absurd (omega (arith, case-5 top bottom 64 (rows-fit top bottom accepted .same) h, ok))
-        go (no h) = omega arith
+    short = rows-short top bottom 64 ok
 
     -- few tracks and columns, and entries for which the layout has room
     small : (tracks top bottom ≤ 127) × (width top bottom ≤ 127) × (formulaLength (length top) (tracks top bottom) ≤ 32385)

@@ -9,8 +9,8 @@ use lib.ListN.{length, getD, take, length-append}
 use lib.Seq.{take-suc, take-all, length-take-le}
 use Rattle.listing.specs.Digits.{decimal}
 use Rattle.listing.specs.Text.{cells, lineAt, lines}
-use Rattle.listing.specs.Working.{Room, PutOver}
-use Rattle.listing.proofs.Put.{put-then, put-as, step-room}
+use Rattle.record.specs.Working.{Room, PutOver}
+use Rattle.record.proofs.Put.{put-then, put-as, step-room}
 use Rattle.listing.proofs.Digits.{decimal-small, decimal-large}
 
 -- one more byte of s

@@ -7,7 +7,7 @@ use mathlib.Core.List.{List, [], _∷_, _++_}
 use lib.ListN.{length, getD, length-append}
 use Rattle.listing.specs.Digits.{decimal}
 use Rattle.listing.specs.Text.{cells, columnAt, lineAt, lines, header, drawingText, densityWord, tracksWord, widthWord}
-use Rattle.listing.specs.Working.{Room}
+use Rattle.record.specs.Working.{Room}
 use Rattle.listing.proofs.Digits.{three-digits}
 
 -- the first line

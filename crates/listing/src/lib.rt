@@ -12,7 +12,8 @@ ghost use Rattle.record.specs.Counts.{Counts};
 ghost use Rattle.listing.specs.Digits.{decimal};
 ghost use Rattle.listing.specs.Text.{cells, columnAt, lineAt, lines, header, drawingText, refusal};
 ghost use Rattle.listing.specs.Listing.{numberOf, lengthOf, channelText, refused, textOf, listed, output};
-ghost use Rattle.listing.specs.Working.{Room, PutOver, Lists};
+ghost use Rattle.record.specs.Working.{Room, PutOver};
+ghost use Rattle.listing.specs.Working.{Lists};
 
 // The bytes of the text that a call is lent: the longest listing fits.
 pub const ROOM: usize = 131072;

@@ -1,5 +1,6 @@
--- Document 01, "Record and listing" and the table's rows 1 to 3: what the bytes of a record say. Places are counted from 0.
-use Prim.Native.Nat.{ℕ, zero, suc, _+_, _*_, _-_}
+-- Document 01, "Record and listing" and the table's rows 1 to 3: what the bytes of a record say, and the bytes of a channel's record. Places are counted
+-- from 0.
+use Prim.Native.Nat.{ℕ, zero, suc, _+_, _*_, _-_, _/_, _%_}
 use mathlib.Core.Bool.{Bool, not, _||_}
 use mathlib.Core.List.{List, [], _∷_, _++_}
 use lib.Dec.{eqb, ltb}
@@ -63,3 +64,20 @@ bottomRow s = row s (6 + 2 * columns (recordRead s)) (columns (recordRead s))
 -- a list written over the first elements of an array
 abbrev pub laid : List ℕ → List ℕ → List ℕ
 laid new old = new ++ drop (length new) old
+
+-- "each number two bytes", "little-endian": the bytes of a number
+abbrev pub twoBytes : ℕ → List ℕ
+twoBytes v = (v % 256) ∷ (v / 256 % 256) ∷ []
+
+-- the bytes of several numbers
+unfoldable pub words : List ℕ → List ℕ
+words [] = []
+words (x ∷ xs) = twoBytes x ++ words xs
+
+-- "two-byte length of all that follows it, two-byte kind, body", "Kind 1 is a channel: n, the top row, the bottom row": the numbers of a channel's record
+abbrev pub fields : List ℕ → List ℕ → List ℕ
+fields top bottom = (4 + 4 * length top) ∷ 1 ∷ length top ∷ (top ++ bottom)
+
+-- its bytes
+unfoldable pub recordOf : List ℕ → List ℕ → List ℕ
+recordOf top bottom = words (fields top bottom)

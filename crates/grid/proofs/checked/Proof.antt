@@ -1,63 +1,55 @@
--- `grid::checked` meets its contract: the five cases of the row check, each by its law. Assumes nothing.
-use Prim.Native.Nat.{ℕ}
+-- `grid::checked` meets its contract: the cases of the row check, each by its law. Assumes nothing.
+use Prim.Native.Nat.{ℕ, min}
 use mathlib.Core.Path.{_≡_, sym, ap, ap₂, _∙_}
-use mathlib.Core.Bool.{Bool, true, false, _||_}
+use mathlib.Core.Bool.{Bool, true, false}
 use lib.Dec.{eqb, ltb}
 use lib.ListN.{length}
 use Rattle.grid.specs.declared.Family.{Family}
 use Rattle.grid.specs.declared.RowCheck.the-variants.{Fit}
-use Rattle.grid.specs.Channel.{over, pins as pinsOf}
-use Rattle.grid.specs.Working.{Rows, someTo}
-use Rattle.grid.proofs.Tests.{or-false}
+use Rattle.grid.specs.Channel.{pick, pins as pinsOf}
+use Rattle.grid.specs.Answers.{refusedWithin}
+use Rattle.grid.specs.Working.{sizesRefused, Rows}
 use Rattle.grid.proofs.Tables.{table-length, table-some}
-use Rattle.grid.proofs.Answers.{refused-with, fit-by, case-4, case-5, case-6, case-7, case-0}
+use Rattle.grid.proofs.Answers.{rows-left, case-sizes, case-7, refused-with, fit-by}
 use native.Mathlib.Omega.{arith}
 use borrow.Author.Needs.{needs}
 use Rattle.grid.proofs.checked.Statement.{statement}
 use Rattle.grid.proofs.checked.Tie as tie
 
-none-over : (c : tie.Else3) → (over (c .before .before .before .before .before .before .before .before .before .before .before .args .top .now) || over (c .before .before .before .before .before .before .before .before .before .before .before .args .bottom .now)) ≡ false
-none-over c = ap₂ _||_ (sym (c .before .before .has-over .ensures)) (sym (c .before .has-over2 .ensures)) ∙ c .if3 .left
+-- none of refusals 4 to 6 applies
+none : (c : tie.Else1) → sizesRefused (c .before .before .before .before .before .before .before .args .top .now) (c .before .before .before .before .before .before .before .args .bottom .now) (min (c .before .before .before .before .before .before .before .args .most) 256) ≡ 0
+none c = sym (c .before .sizes-refusal .ensures) ∙ c .if1 .left
 
-rows : (c : tie.Else3) → Rows (c .before .before .before .before .before .before .before .before .before .before .before .args .top .now) (c .before .before .before .before .before .before .before .before .before .before .before .args .bottom .now)
+rows : (c : tie.Else1) → Rows (c .before .before .before .before .before .before .before .args .top .now) (c .before .before .before .before .before .before .before .args .bottom .now)
 rows c =
-    let o = or-false (over (c .before .before .before .before .before .before .before .before .before .before .before .args .top .now)) (over (c .before .before .before .before .before .before .before .before .before .before .before .args .bottom .now)) (none-over c) in
-    record { same = c .before .before .before .before .before .if1 .left; short = omega (arith, c .before .before .before .if2 .left, c .before .before .before .before .limit .ensures); above = o .0; below = o .1 }
+    let a = c .before .before .before .before .before .before .before .args in
+    rows-left (a .top .now) (a .bottom .now) (min (a .most) 256) (omega arith) (none c)
 
--- whether a net has one pin, by the rows
-single : (c : tie.After-tests) → c .tests .result .single ≡ someTo (λ v. eqb (pinsOf (c .before .before .before .before .before .before .before .before .before .before .before .before .before .before .before .before .before .before .before .before .before .before .before .args .top .now) (c .before .before .before .before .before .before .before .before .before .before .before .before .before .before .before .before .before .before .before .before .before .before .before .args .bottom .now) v) 1) 256
-single c = c .tests .ensures .0 ∙ table-some (λ k. eqb k 1) (pinsOf (c .before .before .before .before .before .before .before .before .before .before .before .before .before .before .before .before .before .before .before .before .before .before .before .args .top .now) (c .before .before .before .before .before .before .before .before .before .before .before .before .before .before .before .before .before .before .before .before .before .before .before .args .bottom .now)) _ (c .before .before .before .before .before .before .before .before .fill .ensures .pinned)
-
+-- the number by whether a net has one pin
 number : (c : tie.After-tests) (q : Bool) → c .tests .result .single ≡ q
-    → (someTo (λ v. eqb (pinsOf (c .before .before .before .before .before .before .before .before .before .before .before .before .before .before .before .before .before .before .before .before .before .before .before .args .top .now) (c .before .before .before .before .before .before .before .before .before .before .before .before .before .before .before .before .before .before .before .before .before .before .before .args .bottom .now) v) 1) 256 ≡ q)
-number c q e = sym (single c) ∙ e
+    → pick q 7 0 ≡ refusedWithin (c .before .before .before .before .before .before .before .before .before .before .before .before .before .before .before .before .before .before .before .args .top .now) (c .before .before .before .before .before .before .before .before .before .before .before .before .before .before .before .before .before .before .before .args .bottom .now) (c .before .before .before .before .before .before .before .before .before .before .before .before .before .before .before .before .before .before .before .args .most)
+number c q e =
+    let a = c .before .before .before .before .before .before .before .before .before .before .before .before .before .before .before .before .before .before .before .args in
+    case-7 (a .top .now) (a .bottom .now) (a .most) (none (c .before .before .before .before .before .before .before .before .before .before .before .before)) q
+    (sym (c .tests .ensures .0 ∙ table-some (λ k. eqb k 1) (pinsOf (a .top .now) (a .bottom .now)) _ (c .before .before .before .before .before .before .before .before .fill .ensures .pinned)) ∙ e)
+
+sizes-refusal-requires : tie.Need-sizes-refusal-requires
+sizes-refusal-requires c κs = search needs
 
 returns : tie.Need-returns
-returns c = refused-with (c .before .before .before .before .before .before .args .top .now) (c .before .before .before .before .before .before .args .bottom .now) (c .before .before .before .before .before .before .args .most) 3 (case-4 (c .before .before .before .before .before .before .args .top .now) (c .before .before .before .before .before .before .args .bottom .now) (c .before .before .before .before .before .before .args .most) (c .if1 .taken))
-
-limit-requires : tie.Need-limit-requires
-limit-requires c κs = search needs
-
-returns-2 : tie.Need-returns-2
-returns-2 c = refused-with (c .before .before .before .before .before .before .before .before .args .top .now) (c .before .before .before .before .before .before .before .before .args .bottom .now) (c .before .before .before .before .before .before .before .before .args .most) 4 (case-5 (c .before .before .before .before .before .before .before .before .args .top .now) (c .before .before .before .before .before .before .before .before .args .bottom .now) (c .before .before .before .before .before .before .before .before .args .most) (c .before .before .if1 .left) (omega (arith, c .if2 .taken, c .before .limit .ensures)))
-
-has-over-requires : tie.Need-has-over-requires
-has-over-requires c κs = search needs
-
-has-over-requires-2 : tie.Need-has-over-requires-2
-has-over-requires-2 c κs = search needs
-
-returns-3 : tie.Need-returns-3
-returns-3 c =
-    refused-with (c .before .before .before .before .before .before .before .before .before .before .before .args .top .now) (c .before .before .before .before .before .before .before .before .before .before .before .args .bottom .now) (c .before .before .before .before .before .before .before .before .before .before .before .args .most) 5
-    (case-6 (c .before .before .before .before .before .before .before .before .before .before .before .args .top .now) (c .before .before .before .before .before .before .before .before .before .before .before .args .bottom .now) (c .before .before .before .before .before .before .before .before .before .before .before .args .most) (c .before .before .before .before .before .if1 .left) (omega (arith, c .before .before .before .if2 .left, c .before .before .before .before .limit .ensures))
-    (ap₂ _||_ (sym (c .before .before .has-over .ensures)) (sym (c .before .has-over2 .ensures)) ∙ c .if3 .taken))
+returns c =
+    let a = c .before .before .before .before .before .before .before .args in
+    refused-with (a .top .now) (a .bottom .now) (a .most) _ (c .if1 .taken) (case-sizes (a .top .now) (a .bottom .now) (a .most) _ (c .before .sizes-refusal .ensures) (c .if1 .taken))
 
 fill-requires : tie.Need-fill-requires
-fill-requires c κs = (rows (c .before .before .before), c .before .before .before .before .before .before .before .before .before .before .before .before .before .before .pre .0, c .before .before .before .before .before .before .before .before .before .before .before .before .before .before .pre .1, c .before .before .before .before .before .before .before .before .before .before .before .before .before .before .pre .2)
+fill-requires c κs =
+    let z = c .before .before .before .before .before .before .before .before .before .before .pre in
+    (rows (c .before .before .before), z .0, z .1, z .2)
 
 tests-requires : tie.Need-tests-requires
-tests-requires c κs = ap length (c .before .before .before .before .before .before .before .fill .ensures .pinned) ∙ table-length (pinsOf (c .before .before .before .before .before .before .before .before .before .before .before .before .before .before .before .before .before .before .before .before .before .before .args .top .now) (c .before .before .before .before .before .before .before .before .before .before .before .before .before .before .before .before .before .before .before .before .before .before .args .bottom .now))
+tests-requires c κs =
+    let a = c .before .before .before .before .before .before .before .before .before .before .before .before .before .before .before .before .before .before .args in
+    ap length (c .before .before .before .before .before .before .before .fill .ensures .pinned) ∙ table-length (pinsOf (a .top .now) (a .bottom .now))
 
 same-length : tie.Need-same-length
 same-length c = search needs
@@ -68,22 +60,23 @@ same-length-2 c = search needs
 same-length-3 : tie.Need-same-length-3
 same-length-3 c = search needs
 
-returns-4 : tie.Need-returns-4
-returns-4 c =
-    refused-with (c .before .before .before .before .before .before .before .before .before .before .before .before .before .before .before .before .before .before .before .before .before .before .before .before .args .top .now) (c .before .before .before .before .before .before .before .before .before .before .before .before .before .before .before .before .before .before .before .before .before .before .before .before .args .bottom .now) (c .before .before .before .before .before .before .before .before .before .before .before .before .before .before .before .before .before .before .before .before .before .before .before .before .args .most) 6
-    (case-7 (c .before .before .before .before .before .before .before .before .before .before .before .before .before .before .before .before .before .before .before .before .before .before .before .before .args .top .now) (c .before .before .before .before .before .before .before .before .before .before .before .before .before .before .before .before .before .before .before .before .before .before .before .before .args .bottom .now) (c .before .before .before .before .before .before .before .before .before .before .before .before .before .before .before .before .before .before .before .before .before .before .before .before .args .most) (c .before .before .before .before .before .before .before .before .before .before .before .before .before .before .before .before .before .before .if1 .left) (omega (arith, c .before .before .before .before .before .before .before .before .before .before .before .before .before .before .before .before .if2 .left, c .before .before .before .before .before .before .before .before .before .before .before .before .before .before .before .before .before .limit .ensures)) (none-over (c .before .before .before .before .before .before .before .before .before .before .before .before .before)) (number (c .before) true (c .if4 .taken)))
+returns-2 : tie.Need-returns-2
+returns-2 c =
+    let a = c .before .before .before .before .before .before .before .before .before .before .before .before .before .before .before .before .before .before .before .before .args in
+    refused-with (a .top .now) (a .bottom .now) (a .most) 7 (omega arith) (number (c .before) true (c .if2 .taken))
 
 largest-count-requires : tie.Need-largest-count-requires
-largest-count-requires c κs = (rows (c .before .before .before .before .before .before .before .before .before .before .before .before .before .before .before), c .before .before .before .before .before .before .before .before .before .before .before .fill .ensures .firsts, c .before .before .before .before .before .before .before .before .before .before .before .fill .ensures .lasts)
+largest-count-requires c κs =
+    let filled = c .before .before .before .before .before .before .before .before .before .before .before .fill .ensures in
+    (rows (c .before .before .before .before .before .before .before .before .before .before .before .before .before .before .before), filled .firsts, filled .lasts)
 
 family-of-requires : tie.Need-family-of-requires
 family-of-requires c κs =
-    let top = c .before .before .before .before .before .before .before .before .before .before .before .before .before .before .before .before .before .before .before .before .before .before .before .before .before .before .before .before .before .args .top .now in
-    let bottom = c .before .before .before .before .before .before .before .before .before .before .before .before .before .before .before .before .before .before .before .before .before .before .before .before .before .before .before .before .before .args .bottom .now in
+    let a = c .before .before .before .before .before .before .before .before .before .before .before .before .before .before .before .before .before .before .before .before .before .before .before .before .before .args in
     let filled = c .before .before .before .before .before .before .before .before .before .before .before .before .before .before .fill .ensures in
     let tests = c .before .before .before .before .before .before .tests .ensures in (
       (rows (c .before .before .before .before .before .before .before .before .before .before .before .before .before .before .before .before .before .before), filled .firsts, filled .pinned),
-      (tests .1 .0 ∙ table-some (ltb 2) (pinsOf top bottom) _ (filled .pinned), tests .1 .1 ∙ table-some (ltb 3) (pinsOf top bottom) _ (filled .pinned)),
+      (tests .1 .0 ∙ table-some (ltb 2) (pinsOf (a .top .now) (a .bottom .now)) _ (filled .pinned), tests .1 .1 ∙ table-some (ltb 3) (pinsOf (a .top .now) (a .bottom .now)) _ (filled .pinned)),
     )
 
 same-length-4 : tie.Need-same-length-4
@@ -95,14 +88,13 @@ same-length-5 c = search needs
 same-length-6 : tie.Need-same-length-6
 same-length-6 c = search needs
 
-returns-5 : tie.Need-returns-5
-returns-5 c =
-    let top = c .before .before .before .before .before .before .before .before .before .before .before .before .before .before .before .before .before .before .before .before .before .before .before .before .before .before .before .before .before .before .args .top .now in
-    let bottom = c .before .before .before .before .before .before .before .before .before .before .before .before .before .before .before .before .before .before .before .before .before .before .before .before .before .before .before .before .before .before .args .bottom .now in
-    let z = case-0 top bottom (c .before .before .before .before .before .before .before .before .before .before .before .before .before .before .before .before .before .before .before .before .before .before .before .before .before .before .before .before .before .before .args .most) (c .before .before .before .before .before .before .before .before .before .before .before .before .before .before .before .before .before .before .before .before .before .before .before .before .if1 .left) (omega (arith, c .before .before .before .before .before .before .before .before .before .before .before .before .before .before .before .before .before .before .before .before .before .before .if2 .left, c .before .before .before .before .before .before .before .before .before .before .before .before .before .before .before .before .before .before .before .before .before .before .before .limit .ensures)) (none-over (c .before .before .before .before .before .before .before .before .before .before .before .before .before .before .before .before .before .before .before)) (number (c .before .before .before .before .before .before .before) false (c .before .before .before .before .before .before .if4 .left)) in (
-      ap₂ (λ (d : ℕ) (f : Family). Fit (record { columns = length top; density = d; family = f })) (c .before .before .before .largest-count .ensures) (c .family-of .ensures) ∙ fit-by top bottom (c .before .before .before .before .before .before .before .before .before .before .before .before .before .before .before .before .before .before .before .before .before .before .before .before .before .before .before .before .before .before .args .most) z,
+returns-3 : tie.Need-returns-3
+returns-3 c =
+    let a = c .before .before .before .before .before .before .before .before .before .before .before .before .before .before .before .before .before .before .before .before .before .before .before .before .before .before .args in (
+      ap₂ (λ (d : ℕ) (f : Family). Fit (record { columns = length (a .top .now); density = d; family = f })) (c .before .before .before .largest-count .ensures) (c .family-of .ensures)
+          ∙ fit-by (a .top .now) (a .bottom .now) (a .most) (sym (number (c .before .before .before .before .before .before .before) false (c .before .before .before .before .before .before .if2 .left))),
       λ e. c .before .before .before .before .before .before .before .before .before .before .before .before .before .before .before .fill .ensures,
     )
 
 pub checked-spec : {M : Type 1} → statement M
-checked-spec = tie.close (tie.spec returns limit-requires returns-2 has-over-requires has-over-requires-2 returns-3 fill-requires tests-requires same-length same-length-2 same-length-3 returns-4 largest-count-requires family-of-requires same-length-4 same-length-5 same-length-6 returns-5)
+checked-spec = tie.close (tie.spec sizes-refusal-requires returns fill-requires tests-requires same-length same-length-2 same-length-3 returns-2 largest-count-requires family-of-requires same-length-4 same-length-5 same-length-6 returns-3)

@@ -1,6 +1,6 @@
 use native.Mathlib.Omega.{arith}
 use mathlib.Core.Path.{_∙_}
-use Rattle.listing.proofs.Put.{room-before, room-behind, room-one}
+use Rattle.record.proofs.Put.{room-before, room-behind, room-one}
 use Rattle.listing.proofs.Lines.{number-small, number-large, small-room, large-room}
 use Prim.Native.Nat.{ℕ, _<_}
 use borrow.Fn.Kinds.{In}

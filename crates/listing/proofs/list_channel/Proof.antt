@@ -2,7 +2,7 @@
 use Rattle.grid.specs.Channel.{rowsRefused}
 use mathlib.Core.Path.{_≡_}
 use borrow.Author.Needs.{needs}
-use Rattle.listing.proofs.Put.{put-as}
+use Rattle.record.proofs.Put.{put-as}
 use Rattle.listing.proofs.Channels.{Drawable, channel-refused, channel-drawn, put-lists}
 use Rattle.listing.proofs.list_channel.Statement.{statement}
 use Rattle.listing.proofs.list_channel.Tie as tie

@@ -1,8 +1,8 @@
 use native.Mathlib.Omega.{arith}
 use Prim.Native.Nat.{_≤_, _-_}
 use lib.ListN.{length, take}
-use Rattle.listing.specs.Working.{PutOver}
-use Rattle.listing.proofs.Put.{put-none}
+use Rattle.record.specs.Working.{PutOver}
+use Rattle.record.proofs.Put.{put-none}
 use Rattle.listing.proofs.Lines.{bytes-more, bytes-room, bytes-all}
 use Rattle.listing.proofs.put_bytes.Statement.{statement}
 use Rattle.listing.proofs.put_bytes.Tie as tie

@@ -1,8 +1,8 @@
 use native.Mathlib.Omega.{arith}
 use Prim.Native.Nat.{_+_, _≤_, _-_}
 use Rattle.listing.specs.Text.{cells}
-use Rattle.listing.specs.Working.{PutOver}
-use Rattle.listing.proofs.Put.{put-none, put-all, room-before, room-behind, room-one}
+use Rattle.record.specs.Working.{PutOver}
+use Rattle.record.proofs.Put.{put-none, put-all, room-before, room-behind, room-one}
 use Rattle.listing.proofs.Lines.{cells-more, cell-room}
 use Rattle.listing.proofs.put_cells.Statement.{statement}
 use Rattle.listing.proofs.put_cells.Tie as tie

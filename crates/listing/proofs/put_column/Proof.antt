@@ -2,8 +2,8 @@ use borrow.Author.Needs.{needs}
 use native.Mathlib.Omega.{arith}
 use mathlib.Core.List.{[], _∷_}
 use Rattle.listing.specs.Text.{columnAt}
-use Rattle.listing.specs.Working.{Room}
-use Rattle.listing.proofs.Put.{put-then, room-before, room-behind}
+use Rattle.record.specs.Working.{Room}
+use Rattle.record.proofs.Put.{put-then, room-before, room-behind}
 use Rattle.listing.proofs.put_column.Statement.{statement}
 use Rattle.listing.proofs.put_column.Tie as tie
 

@@ -2,7 +2,7 @@ use borrow.Author.Needs.{needs}
 use native.Mathlib.Omega.{arith}
 use Rattle.listing.specs.Digits.{decimal}
 use Rattle.listing.specs.Text.{header, densityWord, tracksWord, widthWord}
-use Rattle.listing.proofs.Put.{put-then, room-before, room-behind, room-one, room-two}
+use Rattle.record.proofs.Put.{put-then, room-before, room-behind, room-one, room-two}
 use Rattle.listing.proofs.put_header.Statement.{statement}
 use Rattle.listing.proofs.put_header.Tie as tie
 

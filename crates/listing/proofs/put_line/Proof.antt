@@ -1,7 +1,7 @@
 use borrow.Author.Needs.{needs}
 use native.Mathlib.Omega.{arith}
 use Rattle.listing.specs.Text.{lineAt}
-use Rattle.listing.proofs.Put.{put-then, room-before, room-behind, room-one}
+use Rattle.record.proofs.Put.{put-then, room-before, room-behind, room-one}
 use Rattle.listing.proofs.put_line.Statement.{statement}
 use Rattle.listing.proofs.put_line.Tie as tie
 

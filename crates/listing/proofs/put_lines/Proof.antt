@@ -3,8 +3,8 @@ use native.Mathlib.Omega.{arith}
 use Prim.Native.Nat.{_+_, _*_, _≤_, _-_, _<_}
 use mathlib.Core.Path.{_≡_}
 use Rattle.listing.specs.Text.{lines}
-use Rattle.listing.specs.Working.{PutOver}
-use Rattle.listing.proofs.Put.{put-none, put-all}
+use Rattle.record.specs.Working.{PutOver}
+use Rattle.record.proofs.Put.{put-none, put-all}
 use Rattle.listing.proofs.Lines.{lines-more, line-room, next-place, column-fits}
 use Rattle.listing.proofs.put_lines.Statement.{statement}
 use Rattle.listing.proofs.put_lines.Tie as tie

@@ -1,7 +1,7 @@
 use borrow.Author.Needs.{needs}
 use native.Mathlib.Omega.{arith}
 use Rattle.listing.specs.Text.{drawingText}
-use Rattle.listing.proofs.Put.{put-then, room-before, room-behind}
+use Rattle.record.proofs.Put.{put-then, room-before, room-behind}
 use Rattle.listing.proofs.put_listing.Statement.{statement}
 use Rattle.listing.proofs.put_listing.Tie as tie
 

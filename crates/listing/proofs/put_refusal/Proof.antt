@@ -1,7 +1,7 @@
 use borrow.Author.Needs.{needs}
 use native.Mathlib.Omega.{arith}
 use Rattle.listing.specs.Text.{refusal}
-use Rattle.listing.proofs.Put.{put-then}
+use Rattle.record.proofs.Put.{put-then}
 use Rattle.listing.proofs.Digits.{five-digits}
 use Rattle.listing.proofs.put_refusal.Statement.{statement}
 use Rattle.listing.proofs.put_refusal.Tie as tie

@@ -1,6 +1,6 @@
 -- `listing::put_refusal_line` meets its contract: of what `put_refusal` ensures. Assumes nothing.
 use borrow.Author.Needs.{needs}
-use Rattle.listing.proofs.Put.{put-laid, counted}
+use Rattle.record.proofs.Put.{put-laid, counted}
 use Rattle.listing.proofs.put_refusal_line.Statement.{statement}
 use Rattle.listing.proofs.put_refusal_line.Tie as tie
 

@@ -3,14 +3,15 @@ use Prim.Native.Nat.{_+_, _-_, _≤_, _<_}
 use mathlib.Core.Path.{_≡_, refl, sym, _∙_}
 use lib.ListN.{length, getD}
 use Rattle.grid.proofs.Scanning.{none-over}
-use Rattle.grid.proofs.Tables.{Noted, noted-none, first-pin-room, second-pin-room, noted-column, noted-all, zero-table-length}
+use Rattle.grid.proofs.Tables.{Counted, counted-none, first-pin-room, second-pin-room, counted-column, counted-all, zero-table-length}
+use Rattle.grid.proofs.Tables.{Noted, noted-none, second-place, noted-column, noted-all}
 use native.Mathlib.Omega.{arith}
 use borrow.Author.Needs.{needs}
 use Rattle.grid.proofs.spans.note_from_left.Statement.{statement}
 use Rattle.grid.proofs.spans.note_from_left.Tie as tie
 
 abbrev Inv-loop : tie.InvT-loop
-Inv-loop top bottom last₀ pins₀ i₀ c₀ last pins i c = (i ≤ length top) × (c ≡ i + 1) × Noted top bottom i last pins
+Inv-loop top bottom last₀ pins₀ i₀ c₀ last pins i c = (i ≤ length top) × (c ≡ i + 1) × Noted top bottom i last × Counted top bottom i pins
 
 abbrev μ-loop : tie.MeasureT-loop
 μ-loop top bottom last₀ pins₀ i₀ c₀ last pins i c = length top - i
@@ -33,7 +34,13 @@ few : (c : tie.In-loop Inv-loop μ-loop) → c .before .loop .i < 256
 few c = omega (arith, c .before .before .before .before .before .before .pre .0 .short)
 
 loop-holds : tie.Need-loop-holds Inv-loop μ-loop
-loop-holds c = (omega arith, refl, noted-none (c .before .before .before .before .args .top .now) (c .before .before .before .before .args .bottom .now) (c .before .before .before .before .args .last .now) (c .before .before .before .before .args .pins .now) (c .before .before .before .before .pre .1) (c .before .before .before .before .pre .2))
+loop-holds c =
+    let z = c .before .before .before .before in (
+      omega arith,
+      refl,
+      noted-none (z .args .top .now) (z .args .bottom .now) (z .args .last .now) (z .pre .1),
+      counted-none (z .args .top .now) (z .args .bottom .now) (z .args .pins .now) (z .pre .2),
+    )
 
 mul-as-index : tie.Need-mul-as-index Inv-loop μ-loop
 mul-as-index c = search needs
@@ -46,8 +53,11 @@ as-index-requires c κs = search needs
 
 note-requires : tie.Need-note-requires Inv-loop μ-loop
 note-requires c κs =
+    let a = c .before .before .before .before .before .before .before .before .before .before .args in
     let h = c .before .before .before .before .before .loop in
-    first-pin-room (c .before .before .before .before .before .before .before .before .before .before .args .top .now) (c .before .before .before .before .before .before .before .before .before .before .args .bottom .now) (h .i) (h .last) (h .pins) (h .inv .2) (few (c .before .before .before .before)) (c .before .before .as-index .result) (top-net (c .before .before))
+    let p = c .before .before in
+    let r = first-pin-room (a .top .now) (a .bottom .now) (h .i) (h .pins) (h .inv .3) (few (c .before .before .before .before)) (p .as-index .result) (top-net p) in
+    (omega (arith, h .inv .2 .size, top-net p), r .0, r .1)
 
 mul-as-index-2 : tie.Need-mul-as-index-2 Inv-loop μ-loop
 mul-as-index-2 c = search needs
@@ -60,10 +70,17 @@ as-index-requires-2 c κs = search needs
 
 note-requires-2 : tie.Need-note-requires-2 Inv-loop μ-loop
 note-requires-2 c κs =
+    let a = c .before .before .before .before .before .before .before .before .before .before .before .before .before .before .before .before .before .before .before .args in
     let h = c .before .before .before .before .before .before .before .before .before .before .before .before .before .before .loop in
+    let p = c .before .before .before .before .before .before .before .before .before .before .before in
+    let q = c .before .before in
     let n = c .before .before .before .before .before .before .before .before .note in
-    second-pin-room (c .before .before .before .before .before .before .before .before .before .before .before .before .before .before .before .before .before .before .before .args .top .now) (c .before .before .before .before .before .before .before .before .before .before .before .before .before .before .before .before .before .before .before .args .bottom .now) (h .i) (h .last) (h .pins) (h .inv .2) (few (c .before .before .before .before .before .before .before .before .before .before .before .before .before)) (c .before .before .before .before .before .before .before .before .before .before .before .as-index .result) (top-net (c .before .before .before .before .before .before .before .before .before .before .before))
-    (c .before .before .as-index2 .result) (h .c) (bottom-net (c .before .before)) (n .last .1 .1 .0) (n .last .1 .1 .1 .0) (n .ensures .0) (n .ensures .1)
+    let r = second-pin-room (a .top .now) (a .bottom .now) (h .i) (h .pins) (h .inv .3) (few (c .before .before .before .before .before .before .before .before .before .before .before .before .before)) (p .as-index .result) (top-net p)
+    (q .as-index2 .result) (bottom-net q) _ (n .ensures .1) in (
+      second-place (a .top .now) (a .bottom .now) (h .i) (h .last) (h .inv .2) (p .as-index .result) (q .as-index2 .result) (h .c) (top-net p) (bottom-net q) _ (n .ensures .0),
+      r .0,
+      r .1,
+    )
 
 add-i : tie.Need-add-i Inv-loop μ-loop
 add-i c = search needs
@@ -76,24 +93,33 @@ loop-less c = search needs
 
 loop-again : tie.Need-loop-again Inv-loop μ-loop
 loop-again c =
+    let a = c .before .before .before .before .before .before .before .before .before .before .before .before .before .before .before .before .before .before .before .before .before .before .before .before .args in
     let h = c .before .before .before .before .before .before .before .before .before .before .before .before .before .before .before .before .before .before .before .loop in
+    let p = c .before .before .before .before .before .before .before .before .before .before .before .before .before .before .before .before in
+    let q = c .before .before .before .before .before .before .before in
     let n = c .before .before .before .before .before .before .before .before .before .before .before .before .before .note in
     let m = c .before .before .before .before .note2 in (
       omega arith,
       omega (arith, h .inv .1),
-      noted-column (c .before .before .before .before .before .before .before .before .before .before .before .before .before .before .before .before .before .before .before .before .before .before .before .before .args .top .now) (c .before .before .before .before .before .before .before .before .before .before .before .before .before .before .before .before .before .before .before .before .before .before .before .before .args .bottom .now) (h .i) (h .last) (h .pins) (h .inv .2) (few (c .before .before .before .before .before .before .before .before .before .before .before .before .before .before .before .before .before .before)) (c .before .before .before .before .before .before .before .before .before .before .before .before .before .before .before .before .as-index .result) (top-net (c .before .before .before .before .before .before .before .before .before .before .before .before .before .before .before .before))
-          (c .before .before .before .before .before .before .before .as-index2 .result) (h .c) (bottom-net (c .before .before .before .before .before .before .before)) (n .last .1 .1 .0) (n .last .1 .1 .1 .0) (n .ensures .0) (n .ensures .1)
-          (m .last .1 .1 .0) (m .last .1 .1 .1 .0) (m .ensures .0) (m .ensures .1) (h .inv .1) (top-pin (c .before .before .before .before .before .before .before .before .before .before .before .before .before .before .before .before)) (bottom-pin (c .before .before .before .before .before .before .before)),
+      noted-column (a .top .now) (a .bottom .now) (h .i) (h .last) (h .inv .2) (p .as-index .result) (q .as-index2 .result) (h .c) (top-net p) (bottom-net q)
+          _ (n .ensures .0) _ (m .ensures .0) (h .inv .1) (top-pin p) (bottom-pin q),
+      counted-column (a .top .now) (a .bottom .now) (h .i) (h .pins) (h .inv .3) (few (c .before .before .before .before .before .before .before .before .before .before .before .before .before .before .before .before .before .before)) (p .as-index .result) (top-net p)
+          (q .as-index2 .result) (bottom-net q) _ (n .ensures .1) _ (m .ensures .1) (top-pin p) (bottom-pin q),
     )
 
 same-length : tie.Need-same-length Inv-loop μ-loop
-same-length c = c .before .loop .inv .2 .lasts .size ∙ sym (zero-table-length (c .before .before .before .before .before .before .args .last .now) (c .before .before .before .before .before .before .pre .1))
+same-length c = c .before .loop .inv .2 .size ∙ sym (zero-table-length (c .before .before .before .before .before .before .args .last .now) (c .before .before .before .before .before .before .pre .1))
 
 same-length-2 : tie.Need-same-length-2 Inv-loop μ-loop
-same-length-2 c = c .before .loop .inv .2 .counted .size ∙ sym (zero-table-length (c .before .before .before .before .before .before .args .pins .now) (c .before .before .before .before .before .before .pre .2))
+same-length-2 c = c .before .loop .inv .3 .nets .size ∙ sym (zero-table-length (c .before .before .before .before .before .before .args .pins .now) (c .before .before .before .before .before .before .pre .2))
 
 returns : tie.Need-returns Inv-loop μ-loop
-returns c = noted-all (c .before .before .before .before .before .before .args .top .now) (c .before .before .before .before .before .before .args .bottom .now) (c .before .loop .i) (c .before .loop .last) (c .before .loop .pins) (c .before .loop .inv .2) (omega arith) (c .before .before .before .before .before .before .pre .0 .same)
+returns c =
+    let z = c .before .before .before .before .before .before in
+    let h = c .before .loop in (
+      noted-all (z .args .top .now) (z .args .bottom .now) (h .i) (h .last) (h .inv .2) (omega arith),
+      counted-all (z .args .top .now) (z .args .bottom .now) (h .i) (h .pins) (h .inv .3) (omega arith) (z .pre .0 .same),
+    )
 
 pub note-from-left-spec : {M : Type 1} → statement M
 note-from-left-spec = tie.close (tie.spec Inv-loop μ-loop loop-holds mul-as-index shared-slice-read-as-index as-index-requires note-requires mul-as-index-2 shared-slice-read-as-index-2 as-index-requires-2 note-requires-2 add-i add-c loop-less loop-again same-length same-length-2 returns)

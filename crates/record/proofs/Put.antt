@@ -1,4 +1,4 @@
--- The laws of putting bytes over a text. Assumes nothing.
+-- The laws of putting bytes over others. Assumes nothing.
 use Prim.Native.Nat.{ℕ, zero, suc, _+_, _≤_, _<_}
 use native.Mathlib.Omega.{arith}
 use native.Mathlib.Numerals.{add-one}
@@ -10,21 +10,21 @@ use lib.ListN.{length, take, drop, set, length-append, length-set, take-append-d
 use lib.Seq.{set-split, take-at, drop-at, drop-drop, length-take-le}
 use lib.Dec.{ltb}
 use borrow.Author.Tests.{ltb-true, ltb-false}
 use Rattle.record.specs.Record.{laid}
 use Rattle.record.specs.Counts.{Counts}
-use Rattle.listing.specs.Working.{Room, overwritten, PutOver}
+use Rattle.record.specs.Working.{Room, overwritten, PutOver}
 
--- nothing put over a text
+-- nothing put over others
 over-none : (old : List ℕ) (at : ℕ) → overwritten old at [] ≡ old
 unfolding overwritten
 over-none old at = ap (λ z. take at old ++ drop z old) (add-zero at) ∙ take-append-drop at old
 
--- one byte put over a text
+-- one byte put over others
 over-one : (old : List ℕ) (at x : ℕ) → at < length old → set old at x ≡ overwritten old at (x ∷ [])
 unfolding overwritten
 over-one old at x h = set-split old at x h ∙ sym (ap (λ z. take at old ++ (x ∷ drop z old)) (add-one at))
 
--- one list put over a text, then another behind it
+-- one list put over others, then another behind it
 over-over : (old : List ℕ) (at : ℕ) (a b : List ℕ) → at + length a ≤ length old → overwritten (overwritten old at a) (at + length a) b ≡ overwritten old at (a ++ b)
 unfolding overwritten
 over-over old at a b h =
@@ -74,7 +74,7 @@ put-then {old} {at} {a} {m} {mid} {b} {e} {now} p q =
 pub put-as : {old : List ℕ} {at : ℕ} {a : List ℕ} {e : ℕ} {now : List ℕ} → PutOver old at a e now → (b : List ℕ) → a ≡ b → PutOver old at b e now
 put-as {old} {at} {a} {e} {now} p b h = subst (λ z. PutOver old at z e now) h p
 
--- a text put from the start on: its bytes, then the old ones; and how many they are
+-- bytes put from the start on: they, then the old ones; and how many they are
 pub put-laid : {old new : List ℕ} {e : ℕ} {now : List ℕ} → PutOver old 0 new e now → (e ≡ length new) × (now ≡ laid new old)
 unfolding overwritten
 put-laid {old} {new} {e} {now} p = (p .ends ∙ zero-add (length new), p .holds ∙ ap (λ z. new ++ drop z old) (zero-add (length new)))
@@ -104,7 +104,7 @@ room-one r = omega (arith, r .room)
 pub room-two : {old : List ℕ} {at : ℕ} (a b : List ℕ) → Room old at (a ++ b) → at + (length a + length b) ≤ length old
 room-two a b r = omega (arith, r .room, length-append a b)
 
--- a text that grows with each step is longest at the last
+-- a list that grows with each step is longest at the last
 pub grows : (f : ℕ → List ℕ) → ((k : ℕ) → length (f k) ≤ length (f (suc k))) → (i k : ℕ) → i ≤ k → length (f i) ≤ length (f k)
 grows f step i zero h = omega (arith, ap (λ z. length (f z)) (none i h))
   where
@@ -119,7 +119,7 @@ grows f step i (suc k) h = go (λ l. grows f step i k l) (ltb i (suc k)) refl
         last : suc k ≤ i → i ≡ suc k
         last l = omega arith
 
--- room for the next step of a text that grows to n steps
+-- room for the next step of a list that grows to n steps
 pub step-room : {old : List ℕ} {at : ℕ} {m : ℕ} {mid : List ℕ} (f : ℕ → List ℕ)
     → ((k : ℕ) → length (f k) ≤ length (f (suc k))) → (i n : ℕ) (b : List ℕ)
     → f (suc i) ≡ f i ++ b → i < n → PutOver old at (f i) m mid → Room old at (f n) → Room mid m b
