@@ -17,10 +17,10 @@
  * loose end: a grid point on rows 1 to t where it has one edge.
  *
  * Numbers. Each call but gaxwethi_column answers with a number: 0 for
- * acceptance, else why it is refused. Refusals are checked in the order of
- * their numbers; a call skips those of the places that it lacks. A refused
- * call writes nothing: all that it is lent keeps its contents. Its other
- * figures are 0, but for the checker's place, column and row.
+ * acceptance, else why it is refused. Refusals are checked from the top of this
+ * table down; a call skips those of the places that it lacks. A refused call
+ * writes nothing: all that it is lent keeps its contents. Its other figures are
+ * 0, but for the checker's place, column and row.
  *
  *    Record    1  under 4 or over 1,030 bytes, or a wrong length field
  *              2  kind not 1
@@ -31,6 +31,7 @@
  *              7  a net with one pin
  *    Slice     8  layout shorter than gaxwethi_need says
  *              9  net table under 256 records
+ *             18  output slice shorter than 6 + 4n bytes
  *    Drawing  10  w under n or over 511
  *             11  t over 511
  *             12  slice not w * (2t + 1) entries
@@ -201,6 +202,26 @@ typedef struct {
  */
 gaxwethi_list_result gaxwethi_list(const uint8_t *record, size_t len,
                                    uint8_t *text);
+
+typedef struct {
+    uint16_t number;
+    size_t length;
+} gaxwethi_canonical_result;
+
+/*
+ * Writes a channel as a record with its nets renumbered 1, 2, 3 ... in the order
+ * of their first pin, column by column, top before bottom. Refuses with 4 to 7,
+ * and with 18 if len is under 6 + 4n.
+ *
+ * The record is the first 6 + 4n bytes, which is the length answered; the bytes
+ * after it keep their contents. Two channels get equal bytes exactly if a
+ * one-to-one renaming of nets turns one into the other. The record, read back,
+ * is a channel of the same density and tracks, though not always of the same
+ * width, and writing it again gives the same bytes.
+ */
+gaxwethi_canonical_result gaxwethi_canonical(const uint16_t *top, size_t n,
+                                             const uint16_t *bottom, size_t m,
+                                             uint8_t *bytes, size_t len);
 
 #ifdef __cplusplus
 }

@@ -9,3 +9,4 @@ pub mod Solutions
 pub mod Families
 pub mod Tracks
 pub mod Needs
+pub mod Spelling

@@ -114,10 +114,10 @@ module _ (top bottom : List ℕ) where
   unfolding First
   rows-first most m = subst (λ (k : ℕ). First (ofRows top bottom most end) k) (no-later (rowsRefused top bottom most)) (rows-lines most m 0 end (λ e. refl))
 
--- LENT SLICE, of which `asked` entries are asked for
-pub slice-first : (asked lent : ℕ) → First (line 8 (lent < asked) end) (pick (ltb lent asked) 8 0)
+-- LENT SLICE, of which `asked` entries are asked for; n is the number of the refusal
+pub slice-first : (n asked lent : ℕ) → First (line n (lent < asked) end) (pick (ltb lent asked) n 0)
 unfolding First
-slice-first asked lent = by-test (ltb lent asked) 8 0 end (ltb-true lent asked) (less lent asked) (λ e. refl)
+slice-first n asked lent = by-test (ltb lent asked) n 0 end (ltb-true lent asked) (less lent asked) (λ e. refl)
 
 pub slice-numbered : (asked lent : ℕ) → Numbered (line 8 (lent < asked) end)
 unfolding Numbered

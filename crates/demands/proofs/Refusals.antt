@@ -1,10 +1,11 @@
 -- The first demand is met: the numbers, the zeros and the places. Assumes nothing.
-use Prim.Native.Nat.{ℕ, _≤_, _<_, min}
+use Prim.Native.Nat.{ℕ, _+_, _*_, _≤_, _<_, min}
 use mathlib.Core.Path.{_≡_, refl, sym, subst, ap, _∙_}
 use mathlib.Core.Logic.{_⊎_}
 use mathlib.Core.List.{List}
 use native.Mathlib.Omega.{arith}
 use lib.Dec.{ltb}
+use lib.ListN.{length}
 use Rattle.grid.specs.Channel.{pick, rowsRefused}
 use Rattle.grid.specs.Refusals.{firstRefusal}
 use Rattle.grid.specs.Answers as counting
@@ -23,7 +24,9 @@ use Rattle.record.specs.Record.{topRow, bottomRow}
 use Rattle.record.proofs.Refusals.{numbered, columns-by}
 use Rattle.listing.specs.Listing as listing
 use Rattle.listing.proofs.Records.{listed-number, listed-length}
-use Rattle.demands.specs.Table.{First, end, line, ofRecord, ofRows, ofLayout, ofNetTable, ofDrawing, ofReported}
+use Rattle.canonical.specs.Canonical as spelling
+use Rattle.canonical.proofs.Answers as spell
+use Rattle.demands.specs.Table.{First, end, line, ofRecord, ofRows, ofLayout, ofNetTable, ofDrawing, ofReported, ofOutput}
 use Rattle.demands.specs.Refusals.{Refuses, RefusesRecord, Zeros, ZerosRecord, Places, LooseEnds, ReportsFaults}
 use Rattle.demands.proofs.Lines.{rows-lines, rows-first, slice-first, table-lines, record-lines}
 use Rattle.demands.proofs.Drawings.{drawing-lines, strange-least, pin-least, last-least, split-least, loose-least, loose-point}
@@ -37,7 +40,7 @@ module _ (top bottom : List ℕ) where
   -- the rows, then a slice of which `asked` entries are asked for
   pub slice-lines : (most asked lent : ℕ)
       → First (ofRows top bottom (min most 256) (line 8 (lent < asked) end)) (firstRefusal (counting.refusedWithin top bottom most) (pick (ltb lent asked) 8 0))
-  slice-lines most asked lent = rows-lines top bottom (min most 256) (within most) _ _ (λ e. slice-first asked lent)
+  slice-lines most asked lent = rows-lines top bottom (min most 256) (within most) _ _ (λ e. slice-first 8 asked lent)
 
   pub route-first : (most lent : ℕ)
       → First (ofRows top bottom (min most 256) (ofLayout top bottom lent)) (routing.numberOf (routing.answer top bottom most lent))
@@ -60,6 +63,10 @@ module _ (top bottom : List ℕ) where
   unfolding checking.refused
   check-first w t D = rows-lines top bottom 256 (omega arith) _ _ (λ e. drawing-lines top bottom w t D e)
 
+  write-first : (lent : ℕ) → First (ofRows top bottom 256 (ofOutput top bottom lent)) (spelling.refused top bottom lent)
+  unfolding spelling.refused
+  write-first lent = rows-lines top bottom 256 (omega arith) _ _ (λ e. slice-first 18 (6 + 4 * length top) lent)
+
   -- for all rows
   pub refuses : Refuses top bottom
   refuses =
@@ -75,6 +82,8 @@ module _ (top bottom : List ℕ) where
         report = λ drawing D lent.
             subst (λ (k : ℕ). First (ofRows top bottom 256 (ofNetTable lent (ofReported top bottom drawing D))) k) (sym (report.number top bottom drawing D lent))
             (report-first drawing D lent);
+        write = λ lent.
+            subst (λ (k : ℕ). First (ofRows top bottom 256 (ofOutput top bottom lent)) k) (sym (spell.answer-number top bottom lent)) (write-first lent);
       }
 
   -- THE ZEROS
@@ -85,6 +94,7 @@ module _ (top bottom : List ℕ) where
         density = λ n. density-figure top bottom ∙ accepted-old _ _ 0 (λ z. n (density-number top bottom ∙ z));
         need = λ n. need-entries top bottom ∙ accepted-old _ _ 0 (λ z. n (need-number top bottom ∙ z));
         route = λ most lent n. answer-figures top bottom most lent ∙ accepted-old _ _ routing.noFigures (λ z. n (answer-number top bottom most lent ∙ z));
+        write = λ lent n. spell.answer-length top bottom lent ∙ accepted-old _ _ 0 (λ z. n (spell.answer-number top bottom lent ∙ z));
       }
 
   -- THE PLACES

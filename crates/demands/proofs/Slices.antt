@@ -2,7 +2,7 @@
 use Prim.Native.Nat.{ℕ, _+_, _*_, _-_, _≤_}
 use mathlib.Core.Path.{_≡_, refl, sym, ap, _∙_}
 use mathlib.Core.Logic.{_≢_, _⊎_, inl, inr, ⊎-elim, by-cases}
-use mathlib.Core.List.{List, []}
+use mathlib.Core.List.{List, [], _++_}
 use native.Mathlib.Omega.{arith}
 use native.Mathlib.Decide.{decLt, ℕ-discrete}
 use lib.ListN.{length, drop, length-drop}
@@ -14,6 +14,7 @@ use Rattle.grid.specs.Channel.{pins}
 use Rattle.grid.specs.Nets.{firstColumn, lastColumn, table}
 use Rattle.grid.specs.Answers as counting
 use Rattle.grid.proofs.Answers.{accepted-new, accepted-old}
+use Rattle.grid.proofs.Rows.{rows-fit}
 use Rattle.grid.proofs.Views.{part-end, too-wide, too-tall, wrong-size, no-column, past-last, found}
 use Rattle.router.proofs.Answered.{answer-number, written-refused, written-drawn}
 use Rattle.report.specs.declared.NetRecord.{NetRecord}
@@ -26,7 +27,20 @@ use Rattle.record.specs.Record as reading
 use Rattle.record.specs.Record.{topRow, bottomRow, laid}
 use Rattle.listing.specs.Listing as listing
 use Rattle.listing.proofs.Records.{listed-number, output-text, output-line}
+use Rattle.canonical.specs.Canonical as spelling
+use Rattle.canonical.proofs.Answers as spell
 use Rattle.demands.specs.Slices.{LeavesSlices, LeavesNetRecords, LeavesLengths, LeavesRecord, NoColumn, Shows}
+
+-- what the writing of the one spelling leaves
+write-refused : (top bottom old : List ℕ) → spelling.numberOf (spelling.answer top bottom (length old)) ≢ 0 → spelling.bytesAfter top bottom old ≡ old
+unfolding spelling.bytesAfter
+write-refused top bottom old n = accepted-old (spelling.refused top bottom (length old)) _ old (λ z. n (spell.answer-number top bottom (length old) ∙ z))
+
+record-written : (top bottom old : List ℕ) → spelling.numberOf (spelling.answer top bottom (length old)) ≡ 0
+    → spelling.bytesAfter top bottom old ≡ spelling.canonical top bottom ++ drop (6 + 4 * length top) old
+record-written top bottom old e =
+    let (r, h) = spell.none-refused top bottom (length old) (sym (spell.answer-number top bottom (length old)) ∙ e) in
+    spell.bytes-new top bottom old r h ∙ ap (λ (k : ℕ). spelling.canonical top bottom ++ drop k old) (spell.canonical-length top bottom (rows-fit top bottom r .same))
 
 -- for all rows
 pub leaves : (top bottom : List ℕ) → LeavesSlices top bottom
@@ -37,11 +51,13 @@ leaves top bottom =
       factsRefused = λ most old n.
           let k = counting.numberOf (counting.rowCheck top bottom most) in
           (accepted-old k (table (firstColumn top bottom)) old n, accepted-old k (table (lastColumn top bottom)) old n, accepted-old k (table (pins top bottom)) old n);
+      writeRefused = write-refused top bottom;
       routeDrawn = λ most old e. written-drawn top bottom most old (sym (answer-number top bottom most (length old)) ∙ e);
       reportFilled = λ drawing D old e. report.table-filled top bottom drawing D old (sym (report.number top bottom drawing D (length old)) ∙ e);
       factsFilled = λ most old e.
           let k = counting.numberOf (counting.rowCheck top bottom most) in
           (accepted-new k (table (firstColumn top bottom)) old e, accepted-new k (table (lastColumn top bottom)) old e, accepted-new k (table (pins top bottom)) old e);
+      written = record-written top bottom;
     }
 
 -- for all tables of records

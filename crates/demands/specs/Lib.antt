@@ -8,5 +8,6 @@ pub mod Slices
 pub mod Solutions
 -- The third demand, whole: `Tracks`.
 pub mod Tracks
--- Document 02's requests of the slice that routing is lent: `Needs`.
+-- Document 02's requests: of the slice that routing is lent, `Needs`; of the one spelling of a channel, `Spelling`.
 pub mod Needs
+pub mod Spelling

@@ -13,8 +13,9 @@ use Rattle.report.specs.Report as reporting
 use Rattle.record.specs.Record as reading
 use Rattle.record.specs.Record.{topRow, bottomRow}
 use Rattle.listing.specs.Listing as listing
+use Rattle.canonical.specs.Canonical as spelling
 use Rattle.checker.specs.Faults.{Strange, PinWrong, LeavesLast, Split, LooseEnd, FirstLoose}
-use Rattle.demands.specs.Table.{First, end, ofRecord, ofRows, ofLayout, ofNetTable, ofDrawing, ofReported, Least}
+use Rattle.demands.specs.Table.{First, end, ofRecord, ofRows, ofLayout, ofNetTable, ofDrawing, ofReported, ofOutput, Least}
 
 -- THE FIRST NUMBER THAT APPLIES, call by call: of the calls on rows, `most` a limit of columns and `lent` the length of a slice
 pub record Refuses (top bottom : List ℕ) : Type 0 where
@@ -29,6 +30,8 @@ pub record Refuses (top bottom : List ℕ) : Type 0 where
   pub report :
       (drawing : Drawing) (D : List ℕ) (lent : ℕ)
       → First (ofRows top bottom 256 (ofNetTable lent (ofReported top bottom drawing D))) (reporting.numberOf (reporting.reported top bottom drawing D lent))
+  -- the writing of the one spelling
+  pub write : (lent : ℕ) → First (ofRows top bottom 256 (ofOutput top bottom lent)) (spelling.numberOf (spelling.answer top bottom lent))
 
 -- of the calls on a record's bytes
 pub record RefusesRecord (s : List ℕ) : Type 0 where
@@ -42,6 +45,7 @@ pub record Zeros (top bottom : List ℕ) : Type 0 where
   pub need : routing.lengthNumberOf (routing.need top bottom) ≢ 0 → routing.entriesOf (routing.need top bottom) ≡ 0
   pub route :
       (most lent : ℕ) → routing.numberOf (routing.answer top bottom most lent) ≢ 0 → routing.figuresOf (routing.answer top bottom most lent) ≡ routing.noFigures
+  pub write : (lent : ℕ) → spelling.numberOf (spelling.answer top bottom lent) ≢ 0 → spelling.lengthOf (spelling.answer top bottom lent) ≡ 0
 
 pub record ZerosRecord (s : List ℕ) : Type 0 where
   pub read : reading.number (reading.recordRead s) ≢ 0 → reading.columns (reading.recordRead s) ≡ 0

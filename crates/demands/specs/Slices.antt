@@ -22,6 +22,7 @@ use Rattle.record.specs.Record as reading
 use Rattle.record.specs.Record.{topRow, bottomRow, laid}
 use Rattle.listing.specs.Listing as listing
 use Rattle.listing.specs.Text.{refusal}
+use Rattle.canonical.specs.Canonical as spelling
 
 -- WHAT THE CALLS ON ROWS LEAVE
 -- of a table of the net facts that held `old`: that of the figure f of each net, or the old contents
@@ -29,7 +30,7 @@ abbrev pub factAfter : (top bottom : List ℕ) (f : ℕ → ℕ) (most : ℕ) (o
 factAfter top bottom f most old = ifAccepted (counting.numberOf (counting.rowCheck top bottom most)) (table f) old
 
 pub record LeavesSlices (top bottom : List ℕ) : Type 0 where
-  -- "A refused call writes to no lent slice or table": routing, the net report, and the three tables of the net facts
+  -- "A refused call writes to no lent slice or table": routing, the net report, the three tables of the net facts, and the writing of the one spelling
   pub routeRefused : (most : ℕ) (old : List ℕ) → routing.numberOf (routing.answer top bottom most (length old)) ≢ 0 → routing.written top bottom most old ≡ old
   pub reportRefused : (drawing : Drawing) (D : List ℕ) (old : List NetRecord) → reporting.numberOf (reporting.reported top bottom drawing D (length old)) ≢ 0
       → reporting.tableAfter top bottom drawing D old ≡ old
@@ -37,7 +38,8 @@ pub record LeavesSlices (top bottom : List ℕ) : Type 0 where
       → (factAfter top bottom (firstColumn top bottom) most old ≡ old)
       × (factAfter top bottom (lastColumn top bottom) most old ≡ old)
       × (factAfter top bottom (pins top bottom) most old ≡ old)
-  -- an accepted one writes the drawing, the 256 records, or the tables, and keeps what stands behind
+  pub writeRefused : (old : List ℕ) → spelling.numberOf (spelling.answer top bottom (length old)) ≢ 0 → spelling.bytesAfter top bottom old ≡ old
+  -- an accepted one writes the drawing, the 256 records, the tables, or the record's bytes, and keeps what stands behind
   pub routeDrawn : (most : ℕ) (old : List ℕ) → routing.numberOf (routing.answer top bottom most (length old)) ≡ 0
       → routing.written top bottom most old ≡ layout top bottom ++ drop (length (layout top bottom)) old
   pub reportFilled : (drawing : Drawing) (D : List ℕ) (old : List NetRecord) → reporting.numberOf (reporting.reported top bottom drawing D (length old)) ≡ 0
@@ -46,6 +48,9 @@ pub record LeavesSlices (top bottom : List ℕ) : Type 0 where
       → (factAfter top bottom (firstColumn top bottom) most old ≡ table (firstColumn top bottom))
       × (factAfter top bottom (lastColumn top bottom) most old ≡ table (lastColumn top bottom))
       × (factAfter top bottom (pins top bottom) most old ≡ table (pins top bottom))
+  -- document 02, Job 6: "Bytes behind the record keep their contents"
+  pub written : (old : List ℕ) → spelling.numberOf (spelling.answer top bottom (length old)) ≡ 0
+      → spelling.bytesAfter top bottom old ≡ spelling.canonical top bottom ++ drop (6 + 4 * length top) old
 
 -- THE RECORDS that an accepted net report leaves in a table that held `old`; d serves for what lies past the table's end
 pub record LeavesNetRecords (top bottom : List ℕ) (drawing : Drawing) (D : List ℕ) (old : List NetRecord) (d : NetRecord) : Type 0 where

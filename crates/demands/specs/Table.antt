@@ -63,6 +63,10 @@ module _ (top bottom : List ℕ) where
   abbrev pub ofFormula : (lent : ℕ) → Table
   ofFormula lent = line 8 (lent < formulaLength (length top) (tracks top bottom)) end
 
+  -- OUTPUT SLICE of a record: document 02, Job 6, "18: output slice shorter than 6 + 4n bytes; checked after 9"
+  abbrev pub ofOutput : (lent : ℕ) → Table
+  ofOutput lent = line 18 (lent < 6 + 4 * length top) end
+
 -- NET TABLE: "net table under 256 records"
 abbrev pub ofNetTable : (lent : ℕ) → Table → Table
 ofNetTable lent rest = line 9 (lent < 256) rest

@@ -24,8 +24,11 @@ use Rattle.export.specs.declared.RouteResult.{RouteResult}
 use Rattle.listing.specs.declared.Listed.{Listed}
 use Rattle.listing.specs.Listing.{lengthOf}
 use Rattle.listing.specs.Listing.{numberOf as listNumber}
+use Rattle.canonical.specs.declared.Written.{Written}
+use Rattle.canonical.specs.Canonical.{numberOf as writtenNumber, lengthOf as writtenLength}
 use Rattle.export.specs.declared.CheckResult.{CheckResult}
 use Rattle.export.specs.declared.ListResult.{ListResult}
+use Rattle.export.specs.declared.CanonicalResult.{CanonicalResult}
 
 -- the density
 abbrev pub densityOf : DensityCount → DensityResult
@@ -47,6 +50,10 @@ checkedOf a = record { number = faultNumber a; place = placeOf a; column = fault
 -- the listing's number and the bytes of its text
 abbrev pub listOf : Listed → ListResult
 listOf a = record { number = listNumber a; length = lengthOf a }
+
+-- the number of a record's writing, and its bytes
+abbrev pub canonicalOf : Written → CanonicalResult
+canonicalOf a = record { number = writtenNumber a; length = writtenLength a }
 
 -- a fault's number, place, column and row
 abbrev pub toldBy : Fault → CheckResult

@@ -14,13 +14,14 @@ ghost use Rattle.grid.specs.Answers.{densityCount};
 ghost use Rattle.grid.specs.View.{columnPart};
 ghost use Rattle.router.specs.Answers.{need, answer, written};
 ghost use Rattle.checker.specs.Check.{checked};
-ghost use Rattle.export.specs.Export.{densityOf, needOf, routeOf, checkedOf, listOf, reportOf, flat, figuresAfter};
+ghost use Rattle.export.specs.Export.{densityOf, needOf, routeOf, checkedOf, listOf, canonicalOf, reportOf, flat, figuresAfter};
 ghost use Rattle.export.specs.Working.{netPut};
 ghost use Rattle.report.specs.declared.Drawing.the-variants.{Absent, Given};
 ghost use Rattle.report.specs.Report.{refused, reported, faultOf};
 ghost use Rattle.grid.specs.Refusals.{ifAccepted};
 ghost use Rattle.record.specs.Record.{laid};
 ghost use Rattle.listing.specs.Listing.{listed, refused as listRefused, textOf};
+ghost use Rattle.canonical.specs.Canonical.{answer as canonicalAnswer, bytesAfter};
 
 #[repr(C)]
 pub struct DensityResult {
@@ -52,6 +53,12 @@ pub struct CheckResult {
 
 #[repr(C)]
 pub struct ListResult {
+    pub number: u16,
+    pub length: usize,
+}
+
+#[repr(C)]
+pub struct CanonicalResult {
     pub number: u16,
     pub length: usize,
 }
@@ -232,5 +239,23 @@ pub extern "C" fn gaxwethi_list(record: &[u8], text: &mut [u8; 131072]) -> ListR
     ListResult {
         number: listing::number_of(a),
         length: listing::length_of(a),
+    }
+}
+
+// Writes a channel as a record with its nets renumbered in the order of their first pin, at the front of the bytes; what stands behind it stays. A refused
+// call leaves the bytes as they are.
+#[no_mangle]
+pub extern "C" fn gaxwethi_canonical(
+    top: &[u16],
+    bottom: &[u16],
+    bytes: &mut [u8],
+) -> CanonicalResult
+    ensures answer { λ r. ⌜ r ≡ canonicalOf (canonicalAnswer (now (top .entry)) (now (bottom .entry)) (length (now (bytes .entry)))) ⌝ }
+    ensures bytes { λ r. ⌜ now (bytes .exit) ≡ bytesAfter (now (top .entry)) (now (bottom .entry)) (now (bytes .entry)) ⌝ }
+{
+    let a = canonical::write(top, bottom, bytes);
+    CanonicalResult {
+        number: canonical::number_of(a),
+        length: canonical::length_of(a),
     }
 }
