@@ -4,16 +4,25 @@
     tools/channel.py < channel.txt > channel.bin     text to record
     tools/channel.py --back < channel.bin            record to text
     tools/channel.py --hex < channel.txt             record in hexadecimal
+    tools/channel.py --canonical < channel.txt       canonical record; also with --hex or --back
 
 The text has a line `top 1 2` and a line `bottom 2 1`: a number for each
 column, 0 (or `.`) for no pin. Empty lines and lines that begin with `#` are
 skipped.
+
+The canonical record has the nets renumbered 1, 2, 3 ... in the order of their
+first pin, column by column, top before bottom: channels that differ in their net
+numbers alone give the same bytes. Rows that the library refuses are refused here
+with the same number, as `refused 7`.
 """
 
 import argparse
 import re
 import struct
 import sys
+
+from second_channel import refusal
+from second_record import renumbered
 
 KIND = 1
 MOST = (65535 - 4) // 4  # columns that the length field can count
@@ -73,16 +82,27 @@ def rows_of_record(record):
     return numbers[:n], numbers[n:]
 
 
+def canonical_rows(top, bottom):
+    """The rows of the canonical record; a ValueError says the number of a refusal."""
+    number = refusal(top, bottom)
+    if number:
+        raise ValueError(f"refused {number}")
+    return renumbered(top, bottom)
+
+
 def main():
     parser = argparse.ArgumentParser(description=__doc__.splitlines()[0])
     parser.add_argument("--back", action="store_true", help="record to text")
     parser.add_argument("--hex", action="store_true", help="write the record in hexadecimal")
+    parser.add_argument("--canonical", action="store_true", help="renumber the nets in the order of their first pin")
     options = parser.parse_args()
     try:
+        rows = rows_of_record(sys.stdin.buffer.read()) if options.back else rows_of_text(sys.stdin.read())
+        rows = canonical_rows(*rows) if options.canonical else rows
         if options.back:
-            sys.stdout.write(text_of_rows(*rows_of_record(sys.stdin.buffer.read())))
+            sys.stdout.write(text_of_rows(*rows))
             return 0
-        record = record_of_rows(*rows_of_text(sys.stdin.read()))
+        record = record_of_rows(*rows)
     except ValueError as error:
         print(f"channel.py: {error}", file=sys.stderr)
         return 1

@@ -13,7 +13,8 @@ import pathlib
 import random
 import sys
 
-from second_router import LARGEST, LISTED, listing, write_record
+from second_record import write_record
+from second_router import LARGEST, LISTED, listing
 from three_pin_channels import channels as three_pin_channels
 
 COUNT = 240  # records drawn by lot, beside the others

@@ -1,50 +1,23 @@
 #!/usr/bin/env python3
-"""A second router, checker and net report for knock-knee channels.
+"""A second router, checker, net report and canonical record for knock-knee channels.
 
 Written from documents 01 and 02 alone, the third sweep with the choices of docs/THREE-PIN.md, so that its answers can be laid beside those of the proved one.
 It keeps the tracks of each net as a set, draws wires row by row, and finds pieces by a search over grid points.
 
     second_router.py list  < record      the listing of one record
     second_router.py compare FILE ...    compare with files of worked cases, whose names end in routes.txt, needs.txt, listings.txt, checks.txt,
-                                         reports.txt or long.txt
+                                         reports.txt, long.txt or records.txt
 """
 
 import sys
 
 from second_channel import LARGEST, refusal
 from second_checker import check
+from second_record import canonical, read_record
 from second_report import NO_RECORD, report
 from second_sweep import need, route, route_number
 
 LISTED = 64  # columns of a channel that is listed
-
-
-# Record and listing
-
-
-def little(data, place):
-    """The two-byte number at a place."""
-    return data[place] + 256 * data[place + 1]
-
-
-def read_record(data):
-    """Number, top row and bottom row of a record of kind 1."""
-    if not 4 <= len(data) <= 1030 or little(data, 0) != len(data) - 2:
-        return 1, [], []
-    if little(data, 2) != 1:
-        return 2, [], []
-    body = data[4:]
-    if len(body) < 2 or len(body) != 2 + 4 * little(body, 0):
-        return 3, [], []
-    n = little(body, 0)
-    numbers = [little(body, 2 + 2 * k) for k in range(2 * n)]
-    return 0, numbers[:n], numbers[n:]
-
-
-def write_record(top, bottom):
-    """A record of kind 1."""
-    body = b"".join(number.to_bytes(2, "little") for number in [len(top)] + top + bottom)
-    return (len(body) + 2).to_bytes(2, "little") + b"\x01\x00" + body
 
 
 def listing(data):
@@ -151,6 +124,16 @@ def same_report(part):
     return before_job_8(worked) == answer and table == (kept if worked[0] else filled + kept[LARGEST:])
 
 
+def same_record(part):
+    """Whether a worked case's canonical record is written, or its refusal answered, and the rest of the slice stays."""
+    (room,), (number,) = row(part[2]), row(part[3])
+    record = b"".join(bytes.fromhex(line.partition(" ")[2]) for line in part[4:])
+    kept = b"\xa5" * room
+    output = bytearray(kept)
+    answer = canonical(row(part[0]), row(part[1]), output)
+    return answer == (number, len(record)) and output == record + kept[len(record) :]
+
+
 KINDS = {
     "routes.txt": same_route,
     "needs.txt": same_need,
@@ -158,6 +141,7 @@ KINDS = {
     "checks.txt": same_check,
     "reports.txt": same_report,
     "long.txt": same_report,
+    "records.txt": same_record,
 }
 
 

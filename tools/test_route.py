@@ -55,7 +55,7 @@ class Stubbed(unittest.TestCase):
         self.addCleanup(shutil.rmtree, self.root)
         self.target = self.root / "target"
         (self.root / "tools").mkdir()
-        for name in ("route", "tools/route.py", "tools/channel.py"):
+        for name in ("route", *(f"tools/{tool}.py" for tool in ("route", "channel", "second_channel", "second_record"))):
             shutil.copy(ROOT / name, self.root / name)
         self.env = {"PATH": f"{self.root / 'bin'}:{os.environ['PATH']}", "KNEE_TEXT": LISTING_D}
         (self.root / "bin").mkdir()

@@ -3,6 +3,8 @@
 
 import pathlib
 import re
+import subprocess
+import sys
 import unittest
 from xml.dom import minidom
 
@@ -17,6 +19,7 @@ import second_router
 import three_pin_channels
 from second_channel import MANY_PIN, THREE_PIN, TWO_PIN, family, refusal
 from second_checker import check
+from second_record import canonical, read_record, renumbered
 from second_sweep import need, route, route_number
 
 HERE = pathlib.Path(__file__).resolve().parent
@@ -53,6 +56,25 @@ class Channel(unittest.TestCase):
         for record in [b"", CASE_D[:-1], CASE_D[:-2], CASE_D + b"\0\0"]:
             with self.assertRaises(ValueError):
                 channel.rows_of_record(record)
+
+    def called(self, words, given):
+        """Status, output and errors of a call of the tool."""
+        command = [sys.executable, HERE / "channel.py", *words.split()]
+        run = subprocess.run(command, input=given, capture_output=True, timeout=60)
+        return run.returncode, run.stdout, run.stderr
+
+    def test_canonical(self):
+        text, record = b"top 9 4\nbottom 4 9\n", channel.record_of_rows([9, 4], [4, 9])
+        self.assertEqual(self.called("", text), (0, record, b""))
+        self.assertEqual(self.called("--back", record), (0, b"top    9 4\nbottom 4 9\n", b""))
+        self.assertEqual(self.called("--canonical", text), (0, CASE_D, b""))
+        self.assertEqual(self.called("--canonical --hex", text), (0, CASE_D.hex(" ").upper().encode() + b"\n", b""))
+        self.assertEqual(self.called("--canonical --back", record), (0, b"top    1 2\nbottom 2 1\n", b""))
+
+    def test_canonical_refused(self):
+        wide = "top" + " 0" * 257 + "\nbottom" + " 0" * 257
+        for text, number in [("top 1\nbottom", 4), (wide, 5), ("top 257 257\nbottom 0 0", 6), ("top 1\nbottom 0", 7)]:
+            self.assertEqual(self.called("--canonical", text.encode()), (1, b"", b"channel.py: refused %d\n" % number))
 
 
 class Listing(unittest.TestCase):
@@ -160,6 +182,56 @@ class Routes(unittest.TestCase):
         self.assertEqual(len(shown), 3)
         for rows, text in shown:
             self.assertEqual(second_router.listing(channel.record_of_rows(*channel.rows_of_text(rows))), text)
+
+
+class Records(unittest.TestCase):
+    """The canonical record, on the worked cases of job6-records.txt."""
+
+    parts = second_router.blocks(HERE / "cases" / "job6-records.txt")
+
+    def written(self, top, bottom):
+        """The canonical record, in a slice of just its length."""
+        output = bytearray(6 + 4 * len(top))
+        self.assertEqual(canonical(top, bottom, output), (0, len(output)))
+        return output
+
+    def channels(self):
+        """The accepted channels: top row, bottom row, record."""
+        rows = [(second_router.row(part[0]), second_router.row(part[1])) for part in self.parts if len(part) == 5]
+        return [(top, bottom, self.written(top, bottom)) for top, bottom in rows]
+
+    def test_worked_records(self):
+        self.assertEqual([part for part in self.parts if not second_router.same_record(part)], [])
+        numbers = [second_router.row(part[3])[0] for part in self.parts]
+        self.assertEqual([numbers.count(number) for number in (0, 4, 5, 6, 7, 18)], [707, 36, 3, 34, 17, 288])
+        self.assertEqual(len(numbers), 1085)
+
+    def test_another_record_differs(self):
+        written = ["top 9 4", "bottom 4 9", "slice 15", "number 0", "bytes " + CASE_D.hex()]
+        refused = ["top 9 4", "bottom 4 9", "slice 13", "number 18"]
+        self.assertTrue(second_router.same_record(written) and second_router.same_record(refused))
+        for place, line in [(2, "slice 13"), (3, "number 18"), (4, "bytes " + CASE_D.hex()[:-2]), (4, "bytes " + CASE_D.hex() + "a5"), (1, "bottom 4 4")]:
+            self.assertFalse(second_router.same_record(written[:place] + [line] + written[place + 1 :]))
+        for other in (written[:4], refused + written[4:], refused[:3] + ["number 7"], refused[:2] + written[2:4]):
+            self.assertFalse(second_router.same_record(other))
+
+    def test_equal_bytes_precisely_for_a_renaming(self):
+        channels = [one for one in self.channels() if len(one[0]) < 12]
+        equal = set()
+        for top, bottom, record in channels:
+            for above, below, other in channels:
+                if len(above) == len(top):
+                    # The numbers that stand in one place, 0 with 0 among them: one to one if there are as many of them on either side.
+                    met = {(0, 0), *zip(top + bottom, above + below)}
+                    renamed = len(met) == len({a for a, _ in met}) == len({b for _, b in met})
+                    self.assertEqual(record == other, renamed)
+                    equal.add((renamed, (top, bottom) == (above, below)))
+        self.assertEqual(equal, {(True, True), (True, False), (False, False)})
+
+    def test_read_back_and_written_again(self):
+        for top, bottom, record in self.channels():
+            rows = renumbered(top, bottom)
+            self.assertEqual((read_record(record), self.written(*rows)), ((0, *rows), record))
 
 
 class Reports(unittest.TestCase):

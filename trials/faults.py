@@ -16,7 +16,7 @@ HERE = pathlib.Path(__file__).resolve().parent
 WORK = HERE / "target" / "faults"
 CHANNELS = "10000"
 
-ROWS, CHECK, REPORT, LIST, ROUTE = (f"baseline/src/{x}.rs" for x in ("rows", "check", "report", "list", "route"))
+ROWS, CHECK, REPORT, LIST, ROUTE, RECORD = (f"baseline/src/{x}.rs" for x in ("rows", "check", "report", "list", "route", "record"))
 MANY, THREE = (f"baseline/src/route/{x}.rs" for x in ("many_pin", "three_pin"))
 CALLS = "standin/src/lib.rs"
 
@@ -188,6 +188,56 @@ FAULTS = [
     ("three-way, free track highest", THREE, "[low, high, f]", "[low, f, high]"),
     ("three-way, top net below the reduced one", THREE, "self.add(y, net);\n        self.add(z, p);",
      "self.add(z, net);\n        self.add(y, p);"),
+    ("bottom before top", RECORD, "        above.copy_from_slice(&number(p));\n        below.copy_from_slice(&number(q));",
+     "        below.copy_from_slice(&number(q));\n        above.copy_from_slice(&number(p));"),
+    ("numbered row by row", RECORD, "    for ((&p, &q), (above,", "    top.iter().for_each(|&net| drop(number(net)));\n    for ((&p, &q), (above,"),
+    ("numbered from the right", RECORD, "    for ((&p, &q), (above,",
+     "    top.iter().zip(bottom).rev().for_each(|(&p, &q)| drop((number(p), number(q))));\n    for ((&p, &q), (above,"),
+    ("numbered by the old numbers", RECORD, "    for ((&p, &q), (above,",
+     "    (1..=256).filter(|net| top.contains(net) || bottom.contains(net)).for_each(|net| drop(number(net)));\n    for ((&p, &q), (above,"),
+    ("old numbers kept", RECORD, "*number = last;", "*number = net;"),
+    ("numbered from 0", RECORD, "            last += 1;\n            *number = last;", "            *number = last;\n            last += 1;"),
+    ("numbered from 2", RECORD, "([0; 257], 0u16)", "([0; 257], 1u16)"),
+    ("a number for no pin", RECORD, "net != 0 && *number == 0", "*number == 0"),
+    ("a number for each pin", RECORD, "net != 0 && *number == 0", "net != 0"),
+    ("table of 256 numbers", RECORD, "[0; 257]", "[0; 256]"),
+    ("net 256 taken for no pin", RECORD, "let number = &mut numbers[net as usize];",
+     "let net = net % 256;\n        let number = &mut numbers[net as usize];"),
+    ("numbers of one byte", RECORD, "number.to_le_bytes()", "(*number & 255).to_le_bytes()"),
+    ("high byte first in the rows", RECORD, "number.to_le_bytes()", "number.to_be_bytes()"),
+    ("high byte first in the head", RECORD, "word.to_le_bytes()", "word.to_be_bytes()"),
+    ("rows exchanged", RECORD, "let (above, below) = rows", "let (below, above) = rows"),
+    ("length field of the whole record", RECORD, "[4 + 4 * n as u16", "[6 + 4 * n as u16"),
+    ("length field of the body", RECORD, "[4 + 4 * n as u16", "[2 + 4 * n as u16"),
+    ("length field of one byte", RECORD, "[4 + 4 * n as u16", "[(4 + 4 * n as u16) & 255"),
+    ("another kind", RECORD, " 1, n as u16]", " 2, n as u16]"),
+    ("columns of one byte", RECORD, " 1, n as u16]", " 1, n as u16 & 255]"),
+    ("64 columns at most", RECORD, "bottom, 256)", "bottom, 64)"),
+    ("257 columns written", RECORD, "bottom, 256)", "bottom, 257)"),
+    ("18 before the rows", RECORD, "    nets(", "    if bytes.len() < 6 + 4 * top.len() {\n        return Err(18);\n    }\n    nets("),
+    ("18 before 7", RECORD, "256)?;", "256).map_err(|number| if number == 7 && bytes.len() < 6 + 4 * top.len() { 18 } else { number })?;"),
+    ("8 for a short slice", RECORD, "ok_or(18u16)", "ok_or(8u16)"),
+    ("a slice one byte short taken", RECORD, "let record = bytes.get_mut(..6 + 4 * n).ok_or(18u16)?;",
+     "let mut spare = vec![0; 6 + 4 * n];\n"
+     "    let short = bytes.len() + 1 == spare.len();\n"
+     "    let record = if short { &mut spare[..] } else { bytes.get_mut(..6 + 4 * n).ok_or(18u16)? };"),
+    ("a slice of just the record refused", RECORD, "let record = bytes.get_mut(..6 + 4 * n)",
+     "let room = bytes.len();\n    let record = bytes.get_mut(..6 + 4 * n).filter(|_| room > 6 + 4 * n)"),
+    ("a longer slice refused", RECORD, "let record = bytes.get_mut(..6 + 4 * n)",
+     "let room = bytes.len();\n    let record = bytes.get_mut(..6 + 4 * n).filter(|_| room == 6 + 4 * n)"),
+    ("the byte behind the record written", RECORD, "    let record = ",
+     "    bytes.iter_mut().skip(6 + 4 * n).take(1).for_each(|byte| *byte = 0);\n    let record = "),
+    ("the last byte behind the record written", RECORD, "    let record = ",
+     "    bytes.iter_mut().skip(6 + 4 * n).last().map(|byte| *byte = 0);\n    let record = "),
+    ("short slice written", RECORD, "    let record = ",
+     "    if bytes.len() < 6 + 4 * n {\n        bytes.fill(0);\n    }\n    let record = "),
+    ("first byte written before 18", RECORD, "    let record = ",
+     "    if bytes.len() < 6 + 4 * n {\n        bytes.iter_mut().take(1).for_each(|byte| *byte = 0);\n    }\n    let record = "),
+    ("record of refused rows written", RECORD, "256)?;", "256).inspect_err(|_| bytes.iter_mut().take(1).for_each(|byte| *byte = 0))?;"),
+    ("length of the record without the head", RECORD, "Ok(record.len())", "Ok(record.len() - 6)"),
+    ("length of the slice for that of the record", RECORD, "Ok(record.len())", "Ok(bytes.len())"),
+    ("length of a refused record", CALLS, "    figure(|| baseline::canonical(top, bottom, bytes))",
+     "    let answer = figure(|| baseline::canonical(top, bottom, bytes));\n    Figure { value: 6 + 4 * n, ..answer }"),
 ]
 
 

@@ -104,7 +104,7 @@ impl NetRecord {
 fn accept<T>(number: u16, value: T) -> Result<T, Refusal> {
     match number {
         0 => Ok(value),
-        _ => Err(Refusal::from_number(number).expect("the library's numbers are 0 to 17")),
+        _ => Err(Refusal::from_number(number).expect("the library's numbers are 0 to 18")),
     }
 }
 
@@ -218,4 +218,19 @@ pub fn list(record: &[u8]) -> Result<String, Refusal> {
     accept(r.number, ())?;
     text.truncate(r.length);
     Ok(String::from_utf8(text).expect("a listing is ASCII text"))
+}
+
+/// Writes the canonical record of a channel: of kind 1, with the nets renumbered
+/// 1, 2, 3 ... in the order of their first pin, column by column, top before
+/// bottom. Two channels get equal bytes precisely when a one-to-one renaming of
+/// nets turns one into the other.
+///
+/// The record is the first 6 + 4n bytes of the slice, for n columns, and the answer
+/// is how many these are; what follows keeps its contents. With refusal 4 to 7 or 18
+/// nothing is written; 18 is a slice that is shorter.
+pub fn canonical(top: &[u16], bottom: &[u16], bytes: &mut [u8]) -> Result<usize, Refusal> {
+    let (n, m, len) = (top.len(), bottom.len(), bytes.len());
+    let out = bytes.as_mut_ptr();
+    let r = unsafe { raw::gaxwethi_canonical(top.as_ptr(), n, bottom.as_ptr(), m, out, len) };
+    accept(r.number, r.length)
 }

@@ -50,6 +50,13 @@ pub struct Listed {
     pub length: usize,
 }
 
+#[repr(C)]
+#[derive(Clone, Copy, Debug, PartialEq, Eq)]
+pub struct Canonical {
+    pub number: u16,
+    pub length: usize,
+}
+
 extern "C" {
     pub fn gaxwethi_density(top: *const u16, n: usize, bottom: *const u16, m: usize) -> Density;
 
@@ -100,4 +107,13 @@ extern "C" {
     pub fn gaxwethi_column(len: usize, w: usize, t: usize, c: usize) -> Part;
 
     pub fn gaxwethi_list(record: *const u8, len: usize, text: *mut u8) -> Listed;
+
+    pub fn gaxwethi_canonical(
+        top: *const u16,
+        n: usize,
+        bottom: *const u16,
+        m: usize,
+        bytes: *mut u8,
+        len: usize,
+    ) -> Canonical;
 }

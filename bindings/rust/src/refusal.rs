@@ -41,11 +41,13 @@ pub enum Refusal {
     /// A net has one edge at a grid point on a track; the place is the lowest
     /// such net.
     LooseEnd = 17,
+    /// The output slice is shorter than the 6 + 4n bytes of a record.
+    OutputTooShort = 18,
 }
 
 impl Refusal {
     /// All refusals in the order of their numbers.
-    pub const ALL: [Refusal; 17] = [
+    pub const ALL: [Refusal; 18] = [
         Refusal::RecordLength,
         Refusal::RecordKind,
         Refusal::RecordBody,
@@ -63,14 +65,15 @@ impl Refusal {
         Refusal::LastColumn,
         Refusal::Pieces,
         Refusal::LooseEnd,
+        Refusal::OutputTooShort,
     ];
 
-    /// The papers' number, 1 to 17.
+    /// The papers' number, 1 to 18.
     pub fn number(self) -> u16 {
         self as u16
     }
 
-    /// The refusal of a number; `None` for 0, which is acceptance, and over 17.
+    /// The refusal of a number; `None` for 0, which is acceptance, and over 18.
     pub fn from_number(number: u16) -> Option<Refusal> {
         let at = (number as usize).checked_sub(1)?;
         Self::ALL.get(at).copied()
@@ -97,6 +100,7 @@ impl fmt::Display for Refusal {
             Refusal::LastColumn => "a horizontal edge in the last column",
             Refusal::Pieces => "a net in more than one piece",
             Refusal::LooseEnd => "a loose end",
+            Refusal::OutputTooShort => "output slice too short",
         };
         write!(f, "refused {}: {reason}", self.number())
     }

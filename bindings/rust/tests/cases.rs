@@ -182,11 +182,34 @@ fn text_around_a_listing() {
 }
 
 #[test]
+fn canonical_record_of_case_d() {
+    let mut bytes = [0xa5; 15];
+    assert_eq!(canonical(&[9, 4], &[4, 9], &mut bytes), Ok(14));
+    assert_eq!(bytes[..14], record(&[1, 2], &[2, 1]));
+    assert_eq!(bytes[14], 0xa5);
+    let mut short = [0xa5; 13];
+    let refused = canonical(&[9, 4], &[4, 9], &mut short);
+    assert_eq!(refused, Err(Refusal::OutputTooShort));
+    assert_eq!(refused.unwrap_err().to_string(), "refused 18: output slice too short");
+    assert_eq!(canonical(&[9, 4], &[4, 4], &mut short), Err(Refusal::SinglePin));
+    assert_eq!(short, [0xa5; 13]);
+}
+
+#[test]
+fn canonical_record_of_256_nets() {
+    let row: Vec<u16> = (1..=256).rev().collect();
+    let renamed: Vec<u16> = (1..=256).collect();
+    let mut bytes = [0; 1030];
+    assert_eq!(canonical(&row, &row, &mut bytes), Ok(1030));
+    assert_eq!(bytes[..], record(&renamed, &renamed));
+}
+
+#[test]
 fn numbers_of_refusals() {
     for (number, refusal) in (1..).zip(Refusal::ALL) {
         assert_eq!(refusal.number(), number);
         assert_eq!(Refusal::from_number(number), Some(refusal));
     }
     assert_eq!(Refusal::from_number(0), None);
-    assert_eq!(Refusal::from_number(18), None);
+    assert_eq!(Refusal::from_number(19), None);
 }

@@ -4,7 +4,7 @@
 mod worked;
 
 use gaxwethi::*;
-use worked::{cases, lines, words};
+use worked::{bytes, cases, lines, words};
 
 /// What stands in a slice before a call; no drawing has such an entry.
 const KEPT: u16 = 999;
@@ -95,19 +95,12 @@ fn worked_needs() {
     assert_eq!(cases(text).flat_map(|case| lines(case, "slice")).count(), 6798);
 }
 
-/// The bytes that a line has in hexadecimal after its word.
-fn bytes(line: &str) -> Vec<u8> {
-    let digits = line.split(' ').nth(1).unwrap_or("");
-    let byte = |at: usize| u8::from_str_radix(&digits[at..at + 2], 16).unwrap();
-    (0..digits.len()).step_by(2).map(byte).collect()
-}
-
 #[test]
 fn worked_listings() {
     let tried = |case: &str| {
-        let (record, text) = case.split_once('\n').unwrap();
+        let (_, text) = case.split_once('\n').unwrap();
         let listing = refusal(case).map_or_else(|| Ok(format!("{text}\n")), Err);
-        assert_eq!(list(&bytes(record)), listing, "{case}");
+        assert_eq!(list(&bytes(case, "record").unwrap()), listing, "{case}");
     };
     let text = include_str!("../../../tools/cases/job3-listings.txt");
     assert_eq!(cases(text).map(tried).count(), 450);

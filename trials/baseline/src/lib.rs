@@ -3,6 +3,7 @@
 
 pub mod check;
 pub mod list;
+pub mod record;
 pub mod report;
 pub mod route;
 pub mod rows;
@@ -10,6 +11,7 @@ mod set;
 
 pub use check::{check, column, Checked};
 pub use list::list;
+pub use record::canonical;
 pub use report::{report, report_drawing};
 pub use route::{formula, need, route, Figures};
 pub use rows::density;

@@ -20,13 +20,14 @@ type Side<'a> = Box<dyn FnMut(&Case) -> usize + 'a>;
 type Measure = fn(&[Case], usize) -> Vec<f64>;
 
 /// What is measured, in the order of the table.
-const CALLS: [(&str, Measure); 6] = [
+const CALLS: [(&str, Measure); 7] = [
     ("density", density),
     ("need", need),
     ("route", route),
     ("route, slice of the need", route_fitting),
     ("check", check),
     ("report", report),
+    ("canonical", canonical),
 ];
 
 /// The channels of a row of the table are measured in this many groups.
@@ -162,6 +163,22 @@ fn report(cases: &[Case], repetitions: usize) -> Vec<f64> {
     }
     let library = |c: &Case| library(c, &mut table);
     let rust = |c: &Case| rust(c, &mut figures);
+    medians(vec![Box::new(library), Box::new(rust)], cases, repetitions)
+}
+
+/// The canonical record into slices of just its length.
+fn canonical(cases: &[Case], repetitions: usize) -> Vec<f64> {
+    let length = |c: &Case| 6 + 4 * c.top.len();
+    let most = cases.iter().map(length).max().unwrap();
+    let [mut one, mut other] = [(); 2].map(|()| vec![0; most]);
+    for case in cases {
+        let (one, other) = (&mut one[..length(case)], &mut other[..length(case)]);
+        gaxwethi::canonical(&case.top, &case.bottom, one).unwrap();
+        baseline::canonical(&case.top, &case.bottom, other).unwrap();
+        assert_eq!(one, other, "the records differ");
+    }
+    let library = |c: &Case| gaxwethi::canonical(&c.top, &c.bottom, &mut one[..length(c)]).unwrap();
+    let rust = |c: &Case| baseline::canonical(&c.top, &c.bottom, &mut other[..length(c)]).unwrap();
     medians(vec![Box::new(library), Box::new(rust)], cases, repetitions)
 }
 

@@ -3,15 +3,15 @@
 use crate::damage::{self, Drawing};
 use crate::library;
 use crate::random::{self, Channel, Rng};
-use gaxwethi::raw::{Checked, Density, Listed, Need, Part, Routed, TEXT};
+use gaxwethi::raw::{Canonical, Checked, Density, Listed, Need, Part, Routed, TEXT};
 use std::fmt::Debug;
 
 /// What was compared, and where the two differ.
 pub struct Tally {
     pub channels: u64,
     pub calls: u64,
-    /// How often each number was the answer, 0 to 17.
-    pub numbers: [u64; 18],
+    /// How often each number was the answer, 0 to 18.
+    pub numbers: [u64; 19],
     /// How many channels each sweep draws: two-pin, three-pin, many-pin.
     pub sweeps: [u64; 3],
     pub differences: u64,
@@ -30,7 +30,7 @@ impl Tally {
         Tally {
             channels: 0,
             calls: 0,
-            numbers: [0; 18],
+            numbers: [0; 19],
             sweeps: [0; 3],
             differences: 0,
             shown: Vec::new(),
@@ -86,6 +86,11 @@ impl Tally {
         self.reports(rng, &c);
         self.drawings(rng, &c);
         self.lists(rng, &c);
+        self.records(rng, &c);
+        if rng.percent(1) {
+            let full = random::full(rng);
+            self.records(rng, &full);
+        }
     }
 
     /// Density and need.
@@ -238,6 +243,46 @@ impl Tally {
         let place = spilt.map(|place| length + place);
         self.same("list, first byte written after the text", c, number, None, place);
     }
+
+    /// The canonical record into slices too short, just long enough and longer.
+    fn records(&mut self, rng: &mut Rng, c: &Channel) {
+        let need = 6 + 4 * c.top.len();
+        let shorter = need - if rng.percent(80) { 1 } else { rng.from(1, need) };
+        for room in [shorter, need, need + rng.from(1, 40)] {
+            let mut ours: Vec<u8> = (0..room).map(|_| rng.next() as u8).collect();
+            let mut theirs = ours.clone();
+            let (number, length) = split(second::canonical(&c.top, &c.bottom, &mut ours));
+            let library = library::canonical(&c.top, &c.bottom, &mut theirs);
+            self.same("canonical", c, number, Canonical { number, length }, library);
+            let place = ours.iter().zip(&theirs).position(|(a, b)| a != b);
+            self.same("record, first different byte", c, number, None, place);
+        }
+        if second::rows::nets(&c.top, &c.bottom, second::MOST_COLUMNS).is_ok() {
+            self.spellings(rng, c);
+        }
+    }
+
+    /// The library's record beside those of the channel under other numbers, of the
+    /// rows that are read back, and of a channel with other nets.
+    fn spellings(&mut self, rng: &mut Rng, c: &Channel) {
+        let record = written(c);
+        let renamed = written(&random::renamed(rng, c)) == record;
+        self.same("canonical, equal bytes after a renaming", c, 0, true, renamed);
+        let again = second::record::rows(&record)
+            .is_ok_and(|(top, bottom)| written(&Channel { top, bottom }) == record);
+        self.same("canonical, equal bytes from the rows read back", c, 0, true, again);
+        if let Some(other) = damage::pins(rng, c) {
+            let equal = written(&other) == record;
+            self.same("canonical, equal bytes of other nets", c, 0, false, equal);
+        }
+    }
+}
+
+/// What the library leaves in a slice of just the length of a channel's record.
+fn written(c: &Channel) -> Vec<u8> {
+    let mut record = vec![MARK; 6 + 4 * c.top.len()];
+    library::canonical(&c.top, &c.bottom, &mut record);
+    record
 }
 
 /// The lengths of slices: too short, just long enough, up to that of document 01's

@@ -225,6 +225,28 @@ pub fn rows(rng: &mut Rng, channel: &mut Channel) {
     }
 }
 
+/// A channel with other nets that is not refused either: one place set to another
+/// number or to 0, or two places exchanged. Each net keeps a pin where it was, so no
+/// renaming turns one channel into the other.
+pub fn pins(rng: &mut Rng, channel: &Channel) -> Option<Channel> {
+    let n = channel.top.len();
+    let slots = [&channel.top[..], &channel.bottom].concat();
+    let changed = |_| {
+        let mut top = slots.clone();
+        let (a, b) = (rng.under(2 * n), rng.under(2 * n));
+        match rng.under(6) {
+            0 => top.swap(a, b),
+            1 | 2 => top[a] = 0,
+            _ => top[a] = slots[b],
+        }
+        let differs = top != slots;
+        let bottom = top.split_off(n);
+        let taken = second::rows::nets(&top, &bottom, second::MOST_COLUMNS).is_ok();
+        (differs && taken).then_some(Channel { top, bottom })
+    };
+    (0..if n == 0 { 0 } else { 16 }).find_map(changed)
+}
+
 /// The record of a channel.
 pub fn record(channel: &Channel) -> Vec<u8> {
     let n = channel.top.len() as u16;

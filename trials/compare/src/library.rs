@@ -47,3 +47,8 @@ pub fn column(len: usize, w: usize, t: usize, c: usize) -> Part {
 pub fn list(record: &[u8], text: &mut [u8; TEXT]) -> Listed {
     unsafe { gaxwethi_list(record.as_ptr(), record.len(), text.as_mut_ptr()) }
 }
+
+pub fn canonical(top: &[u16], bottom: &[u16], bytes: &mut [u8]) -> Canonical {
+    let (n, m, len) = (top.len(), bottom.len(), bytes.len());
+    unsafe { gaxwethi_canonical(top.as_ptr(), n, bottom.as_ptr(), m, bytes.as_mut_ptr(), len) }
+}

@@ -58,7 +58,7 @@ fn main() -> ExitCode {
         start.elapsed().as_secs_f64()
     );
     if untried > 0 {
-        println!("{untried} of the numbers 0 to 17 never came up: try more channels");
+        println!("{untried} of the numbers 0 to 18 never came up: try more channels");
     }
     ExitCode::from((all.differences > 0 || untried > 0) as u8)
 }

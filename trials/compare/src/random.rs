@@ -117,6 +117,22 @@ pub fn any(rng: &mut Rng) -> Channel {
     Channel { top, bottom }
 }
 
+/// A channel of 256 nets, the most that there can be.
+pub fn full(rng: &mut Rng) -> Channel {
+    let mut top: Vec<u16> = (1..=256).flat_map(|net| [net, net]).collect();
+    rng.shuffle(&mut top);
+    let bottom = top.split_off(256);
+    Channel { top, bottom }
+}
+
+/// A channel under other net numbers, by a random one-to-one renaming.
+pub fn renamed(rng: &mut Rng, channel: &Channel) -> Channel {
+    let names = numbers(rng, 256);
+    let name = |&net: &u16| if net == 0 { 0 } else { names[net as usize - 1] };
+    let [top, bottom] = [&channel.top, &channel.bottom].map(|row| row.iter().map(name).collect());
+    Channel { top, bottom }
+}
+
 /// Nets of some pins each, spread over a share of the places.
 fn spread(rng: &mut Rng, slots: &mut [u16], least: usize, most: usize, share: usize) {
     let mut places: Vec<usize> = (0..slots.len()).collect();

@@ -1,4 +1,5 @@
-//! A second knock-knee channel router, checker and net report.
+//! A second knock-knee channel router, checker, net report and writer of canonical
+//! records.
 //!
 //! It follows documents 01 and 02, and for nets of two or three pins the choices
 //! in docs/THREE-PIN.md, and shares no code with the library. It keeps to their
@@ -13,7 +14,7 @@ pub mod rows;
 pub mod sweep;
 
 pub use check::{check, column};
-pub use record::{list, printed};
+pub use record::{canonical, list, printed};
 pub use report::{report, report_drawing};
 pub use rows::{density, formula};
 pub use sweep::{need, route};

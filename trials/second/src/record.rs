@@ -1,8 +1,8 @@
-//! Records and listings: what `knee` reads and writes.
+//! Records and listings: what `knee` reads and writes, and the canonical record.
 
 use crate::rows::nets;
 use crate::sweep::draw;
-use crate::MOST_LISTED;
+use crate::{MOST_COLUMNS, MOST_LISTED};
 use std::fmt::Write;
 
 /// The two rows of a record, or refusal 1, 2 or 3.
@@ -50,4 +50,38 @@ pub fn list(record: &[u8]) -> Result<String, u16> {
         text.push('\n');
     }
     Ok(text)
+}
+
+/// The nets of a channel in the order of their first pin: column by column, top
+/// before bottom.
+fn by_first_pin(top: &[u16], bottom: &[u16]) -> Vec<u16> {
+    let mut order = Vec::new();
+    for column in 0..top.len() {
+        for net in [top[column], bottom[column]] {
+            if net != 0 && !order.contains(&net) {
+                order.push(net);
+            }
+        }
+    }
+    order
+}
+
+/// Writes a channel as a record of kind 1 into the first bytes of a slice, its nets
+/// renumbered 1, 2, 3 in the order of their first pin. The answer is the number of
+/// bytes, or refusal 4 to 7, then 18; a refused call leaves the slice as it was.
+pub fn canonical(top: &[u16], bottom: &[u16], output: &mut [u8]) -> Result<usize, u16> {
+    nets(top, bottom, MOST_COLUMNS)?;
+    let n = top.len();
+    if output.len() < 6 + 4 * n {
+        return Err(18);
+    }
+    let order = by_first_pin(top, bottom);
+    let number = |net: &u16| order.iter().position(|other| other == net).map_or(0, |i| i + 1);
+    let mut words = vec![4 + 4 * n, 1, n];
+    words.extend(top.iter().chain(bottom).map(number));
+    for (i, word) in words.iter().enumerate() {
+        output[2 * i] = (word % 256) as u8;
+        output[2 * i + 1] = (word / 256) as u8;
+    }
+    Ok(2 * words.len())
 }

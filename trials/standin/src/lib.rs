@@ -171,3 +171,18 @@ pub unsafe extern "C" fn gaxwethi_list(record: *const u8, len: usize, text: *mut
         Err(number) => Listed { number, length: 0 },
     }
 }
+
+/// # Safety
+#[no_mangle]
+pub unsafe extern "C" fn gaxwethi_canonical(
+    top: *const u16,
+    n: usize,
+    bottom: *const u16,
+    m: usize,
+    bytes: *mut u8,
+    len: usize,
+) -> Figure {
+    let (top, bottom) = (from_raw_parts(top, n), from_raw_parts(bottom, m));
+    let bytes = from_raw_parts_mut(bytes, len);
+    figure(|| baseline::canonical(top, bottom, bytes))
+}

@@ -22,6 +22,15 @@ pub fn lines<'a>(case: &'a str, word: &'a str) -> impl Iterator<Item = Vec<usize
     case.lines().filter(move |line| line.split(' ').next() == Some(word)).map(numbers)
 }
 
+/// The bytes that a case has in hexadecimal after a word, if it has that line.
+#[allow(dead_code)] // Reports have none.
+pub fn bytes(case: &str, word: &str) -> Option<Vec<u8>> {
+    let line = case.lines().find(|line| line.split(' ').next() == Some(word))?;
+    let digits = line.split(' ').nth(1).unwrap_or("");
+    let byte = |at: usize| u8::from_str_radix(&digits[at..at + 2], 16).unwrap();
+    Some((0..digits.len()).step_by(2).map(byte).collect())
+}
+
 /// The numbers of such a line, 16 bits each.
 pub fn words(case: &str, word: &str) -> Vec<u16> {
     let line = lines(case, word).next().unwrap_or_else(|| panic!("no {word} in {case}"));

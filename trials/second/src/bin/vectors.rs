@@ -1,6 +1,7 @@
-//! Compares the second router, checker and net report with files of worked
-//! cases: `vectors FILE ...`, where the names end in routes.txt, needs.txt,
-//! checks.txt, listings.txt, reports.txt or long.txt. A case ends at an empty line.
+//! Compares the second router, checker, net report and canonical record with files
+//! of worked cases: `vectors FILE ...`, where the names end in routes.txt, needs.txt,
+//! checks.txt, listings.txt, reports.txt, long.txt or records.txt. A case ends at an
+//! empty line.
 
 use second::{Checked, MOST_NETS};
 use std::process::ExitCode;
@@ -161,12 +162,32 @@ fn report_agrees(case: &[&str]) -> bool {
     answer_agrees(case, got) && figures == wanted
 }
 
-fn listing_agrees(case: &[&str]) -> bool {
-    let hex = case[0].strip_prefix("record").expect("a record").trim();
+/// The bytes that a case has in hexadecimal after a word, if it has that line.
+fn bytes(case: &[&str], word: &str) -> Option<Vec<u8>> {
+    let hex = case.iter().find_map(|line| line.strip_prefix(word))?.trim();
     let byte = |i| u8::from_str_radix(&hex[i..i + 2], 16).expect("hexadecimal digits");
-    let record: Vec<u8> = (0..hex.len()).step_by(2).map(byte).collect();
+    Some((0..hex.len()).step_by(2).map(byte).collect())
+}
+
+fn listing_agrees(case: &[&str]) -> bool {
+    let record = bytes(&case[..1], "record").expect("a record");
     let wanted: String = case[1..].iter().map(|line| format!("{line}\n")).collect();
     second::printed(&record) == wanted
+}
+
+/// Whether the canonical record agrees, with the whole contents of the slice.
+fn record_agrees(case: &[&str]) -> bool {
+    const KEPT: u8 = 0xa5;
+    let (top, bottom) = (values(case, "top"), values(case, "bottom"));
+    let mut slice = vec![KEPT; values::<usize>(case, "slice")[0]];
+    let got = second::canonical(&top, &bottom, &mut slice);
+    let record = bytes(case, "bytes").unwrap_or_default();
+    let wanted = match values(case, "number")[0] {
+        0 => Ok(record.len()),
+        number => Err(number),
+    };
+    let (written, behind) = slice.split_at(record.len());
+    got == wanted && written == record && behind.iter().all(|&byte| byte == KEPT)
 }
 
 /// Whether a case of a file agrees, by the end of the file's name.
@@ -177,7 +198,8 @@ fn kind(file: &str) -> fn(&[&str]) -> bool {
         _ if file.ends_with("checks.txt") => check_agrees,
         _ if file.ends_with("listings.txt") => listing_agrees,
         _ if file.ends_with("reports.txt") || file.ends_with("long.txt") => report_agrees,
-        _ => panic!("{file}: neither routes, needs, checks, listings nor reports"),
+        _ if file.ends_with("records.txt") => record_agrees,
+        _ => panic!("{file}: neither routes, needs, checks, listings, reports nor records"),
     }
 }
 
