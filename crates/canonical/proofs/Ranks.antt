@@ -10,6 +10,7 @@ use lib.ListN.{length, getD, length-append}
 use Rattle.grid.specs.Channel.{pick, bit, times}
 use Rattle.grid.proofs.Counting.{times-append}
 use Rattle.grid.proofs.Tests.{eq-eqb, ne-eqb, eqBit, Same, same, diff, sameBy}
+use Rattle.record.proofs.Words.{append-all}
 use Rattle.canonical.specs.Renaming.{shifted, rank, withNet}
 
 pub suc-not : (k : ℕ) → suc k ≢ 0
@@ -153,13 +154,7 @@ with-net-length l x = go (withNet l x) (withNetBy l x)
     go m (known n k) = omega arith
     go m (new n k) = omega (arith, length-append l (x ∷ []))
 
--- what holds of each number of two lists holds of those of both; P also holds of 0, which stands past the end
-append-all : (P : ℕ → Type 0) (l r : List ℕ) → ((i : ℕ) → P (getD l i 0)) → ((i : ℕ) → P (getD r i 0)) → (i : ℕ) → P (getD (l ++ r) i 0)
-append-all P [] r h g i = g i
-append-all P (x ∷ xs) r h g zero = h 0
-append-all P (x ∷ xs) r h g (suc i) = append-all P xs r (λ j. h (suc j)) g i
-
--- and of those with a net more
+-- what holds of each number of a list, and of 0, holds of those of the list with a net
 pub with-net-all : (P : ℕ → Type 0) (l : List ℕ) (x : ℕ) → P 0 → P x → ((i : ℕ) → P (getD l i 0)) → (i : ℕ) → P (getD (withNet l x) i 0)
 with-net-all P l x z p h i = go (withNet l x) (withNetBy l x)
   where

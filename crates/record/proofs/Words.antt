@@ -49,11 +49,11 @@ row-at l s j (suc k) at e h =
     ap₂ (λ a b. a ++ (b ∷ [])) (row-at l s j k at e (omega arith)) (word-at l s (j + k) (at + 2 * k) (omega arith) ∙ sym (getD-drop j l k 0))
     ∙ sym (take-suc (drop j l) k 0 (omega (arith, length-drop j l)))
 
--- numbers of two lists, one behind the other
-append-small : (l r : List ℕ) → Small l → Small r → Small (l ++ r)
-append-small [] r h g i = g i
-append-small (x ∷ xs) r h g zero = h 0
-append-small (x ∷ xs) r h g (suc i) = append-small xs r (λ j. h (suc j)) g i
+-- what holds of each number of two lists holds of those of both; P also holds of 0, which stands past the end
+pub append-all : (P : ℕ → Type 0) (l r : List ℕ) → ((i : ℕ) → P (getD l i 0)) → ((i : ℕ) → P (getD r i 0)) → (i : ℕ) → P (getD (l ++ r) i 0)
+append-all P [] r h g i = g i
+append-all P (x ∷ xs) r h g zero = h 0
+append-all P (x ∷ xs) r h g (suc i) = append-all P xs r (λ j. h (suc j)) g i
 
 -- the record of two rows of one length
 pub record-length : (top bottom : List ℕ) → length top ≡ length bottom → length (recordOf top bottom) ≡ 6 + 4 * length top
@@ -65,7 +65,7 @@ module _ (top bottom : List ℕ) (same : length top ≡ length bottom) (few : le
   fields-small zero = omega arith
   fields-small (suc zero) = omega arith
   fields-small (suc (suc zero)) = omega arith
-  fields-small (suc (suc (suc i))) = append-small top bottom above below i
+  fields-small (suc (suc (suc i))) = append-all (λ v. v < 65536) top bottom above below i
 
   -- its number at place i
   field-at : (i at : ℕ) → at ≡ 2 * i → word (recordOf top bottom) at ≡ getD (fields top bottom) i 0
