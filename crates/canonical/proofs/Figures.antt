@@ -5,7 +5,7 @@ use mathlib.Core.Logic.{inl, inr, _≢_}
 use mathlib.Core.Bool.{Bool, true, false, not, _&&_, _||_}
 use mathlib.Core.List.{List, [], _∷_, map}
 use native.Mathlib.Omega.{arith}
-use native.Mathlib.Decide.{decLt, ℕ-discrete}
+use native.Mathlib.Decide.{decLt}
 use lib.Dec.{eqb, ltb}
 use lib.ListN.{length, getD, take, drop, length-map}
 use Rattle.grid.specs.Channel.{pick, bit, times, sum, count, pins, left, right, isOpen, openAt, largest, density, firstTwoAt, firstTwoTo}
@@ -14,7 +14,7 @@ use Rattle.grid.proofs.Sums.{sum-same}
 use Rattle.grid.proofs.Rows.{RowsFit, left-right, open-sides}
 use Rattle.canonical.specs.Renaming.{IsNet, Renames}
 use Rattle.canonical.proofs.Ranks.{same-test, times-map}
-use Rattle.canonical.proofs.Order.{Terminal, top-terminal, bottom-terminal, renamed-at}
+use Rattle.canonical.proofs.Order.{Terminal, terminal-by, top-terminal, bottom-terminal, renamed-at}
 use Rattle.canonical.proofs.Renamed.{one-to-one, same-pins}
 
 -- A COUNT THAT IS CARRIED ELSEWHERE
@@ -117,11 +117,7 @@ module _ (top bottom : List ℕ) (fit : RowsFit top bottom) (f : ℕ → ℕ) (r
   open-net c v n e = record { number = n; pinned = omega (arith, open-sides top bottom c v e .0, left-right top bottom v c) }
 
   open-terminal : (c v : ℕ) → isOpen top bottom c v ≡ true → Terminal top bottom fit v
-  open-terminal c v e = go (ℕ-discrete v 0)
-    where
-      go : Dec (v ≡ 0) → Terminal top bottom fit v
-      go (yes z) = inl z
-      go (no n) = inr (open-net c v n e)
+  open-terminal c v e = terminal-by top bottom fit v (λ n. open-net c v n e)
 
   -- the number of a renamed net is one of 1 to 256
   renamed-small : (v : ℕ) → IsNet top bottom v → (1 ≤ f v) × (f v ≤ 256)
@@ -165,11 +161,7 @@ module _ (top bottom : List ℕ) (fit : RowsFit top bottom) (f : ℕ → ℕ) (r
       larger-net v n e = record { number = n; pinned = omega (arith, ltb-true k (pins top bottom v) e) }
 
       larger-terminal : (v : ℕ) → ltb k (pins top bottom v) ≡ true → Terminal top bottom fit v
-      larger-terminal v e = go (ℕ-discrete v 0)
-        where
-          go : Dec (v ≡ 0) → Terminal top bottom fit v
-          go (yes z) = inl z
-          go (no n) = inr (larger-net v n e)
+      larger-terminal v e = terminal-by top bottom fit v (λ n. larger-net v n e)
 
   -- the same columns have the first two pins of a net of three
   first-two-same : (c : ℕ) → firstTwoAt (map f top) (map f bottom) c ≡ firstTwoAt top bottom c

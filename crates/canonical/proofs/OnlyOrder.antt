@@ -8,8 +8,9 @@ use native.Mathlib.Decide.{decLt, ℕ-discrete}
 use lib.ListN.{length, getD}
 use Rattle.grid.specs.Channel.{left, rowsRefused}
 use Rattle.grid.proofs.Tests.{eqb-diff}
-use Rattle.grid.proofs.Rows.{RowsFit, rows-fit, before, no-right, left-right, left-suc, pin-left}
+use Rattle.grid.proofs.Rows.{RowsFit, rows-fit, before, left-suc, pin-left}
 use Rattle.canonical.specs.Renaming.{newNumber, IsNet, Before, byColumn, byRow, InOrder}
+use Rattle.canonical.proofs.Order.{left-all}
 use Rattle.canonical.proofs.FirstPins.{in-order}
 
 -- ONE OF TWO NETS COMES FIRST
@@ -42,7 +43,7 @@ one-first : (top bottom : List ℕ) → RowsFit top bottom → (u v : ℕ) → I
 one-first top bottom fit u v p q d = ⊎-elim (λ n. absurd (none (n .0))) (λ b. b) (first-of top bottom u v (p .number) (q .number) d (length top) (omega arith))
   where
     none : left top bottom (length top) u ≡ 0 → ⊥
-    none z = omega (arith, p .pinned, left-right top bottom u (length top), no-right top bottom u (omega (arith, fit .same)))
+    none z = omega (arith, p .pinned, left-all top bottom (fit .same) u)
 
 -- TWO NUMBERINGS IN ORDER
 module _ (top bottom : List ℕ) (fit : RowsFit top bottom) where

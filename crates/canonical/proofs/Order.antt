@@ -1,14 +1,16 @@
 -- The nets in the order of their first pin: each net of the channel stands there once, 0 does not, and a renaming renames them. Assumes nothing.
-use Prim.Native.Nat.{ℕ, zero, suc, _+_, _*_, _≤_, _<_}
+use Prim.Native.Nat.{ℕ, zero, suc, _*_, _≤_, _<_}
 use mathlib.Core.Path.{_≡_, refl, sym, ap, ap₂, _∙_}
 use mathlib.Core.Logic.{_⊎_, inl, inr, _≢_, ⊎-elim}
+use mathlib.Core.Bool.{true}
 use mathlib.Core.List.{List, map}
 use native.Mathlib.Omega.{arith}
-use native.Mathlib.Decide.{decLt, ℕ-discrete}
+use native.Mathlib.Decide.{ℕ-discrete}
 use lib.ListN.{length, getD, List·getD-map}
-use Rattle.grid.specs.Channel.{times, sum, pins}
+use Rattle.grid.specs.Channel.{times, count, pins, left}
 use Rattle.grid.proofs.Counting.{times-at, holds-times, at-below, sum-le, length-times}
-use Rattle.grid.proofs.Rows.{RowsFit}
+use Rattle.grid.proofs.Sums.{count-le}
+use Rattle.grid.proofs.Rows.{RowsFit, HasPin, left-right, no-right, left-at}
 use Rattle.canonical.specs.Renaming.{rank, withNet, netsTo, netList, IsNet}
 use Rattle.canonical.proofs.Ranks.{with-net-old, with-net-has, with-net-none, with-net-once, with-net-length, with-net-all, with-net-map, rank-times, Apart}
 
@@ -98,25 +100,31 @@ nets-map top bottom f P z one p t b (suc k) =
     second : Apart f (getD bottom k 0) (withNet (netsTo top bottom k) (getD top k 0))
     second i = one _ _ (with-net-all P (netsTo top bottom k) (getD top k 0) p (t k) all i) (b k)
 
--- the numbers 1 to k are k
-sum-ones : (k : ℕ) → sum (λ v. 1) k ≡ k
-unfolding sum
-sum-ones zero = refl
-sum-ones (suc k) = omega (arith, sum-ones k)
+module _ (top bottom : List ℕ) (same : length top ≡ length bottom) where
+  -- all pins lie in the columns 1 to n
+  pub left-all : (v : ℕ) → left top bottom (length top) v ≡ pins top bottom v
+  left-all v = omega (arith, left-right top bottom v (length top), no-right top bottom v (omega arith))
+
+  -- a number with pins has one in some column
+  pub pin-at : (v : ℕ) → 0 < pins top bottom v → (i : ℕ) × (i < length top) × HasPin top bottom v i
+  pin-at v p = left-at top bottom v (length top) (omega (arith, p, left-all v))
 
 module _ (top bottom : List ℕ) (fit : RowsFit top bottom) where
   -- the number of a terminal: no pin, or a net
   abbrev pub Terminal : ℕ → Type 0
   Terminal v = (v ≡ 0) ⊎ IsNet top bottom v
 
+  pub terminal-by : (v : ℕ) → (v ≢ 0 → IsNet top bottom v) → Terminal v
+  terminal-by v net = go (ℕ-discrete v 0)
+    where
+      go : Dec (v ≡ 0) → Terminal v
+      go (yes e) = inl e
+      go (no n) = inr (net n)
+
   -- a row whose numbers are pins holds such numbers
   terminal-of : (l : List ℕ) → ((v : ℕ) → times v l ≤ pins top bottom v) → (i : ℕ) → Terminal (getD l i 0)
-  terminal-of l within i = go (ℕ-discrete (getD l i 0) 0)
-    where
-      go : Dec (getD l i 0 ≡ 0) → Terminal (getD l i 0)
-      go (yes e) = inl e
-      go (no n) =
-          inr (record { number = n; pinned = omega (arith, holds-times l i (getD l i 0) (at-below l i (getD l i 0) n refl) refl, within (getD l i 0)) })
+  terminal-of l within i = terminal-by (getD l i 0) (λ n.
+      record { number = n; pinned = omega (arith, holds-times l i (getD l i 0) (at-below l i (getD l i 0) n refl) refl, within (getD l i 0)) })
 
   pub top-terminal : (i : ℕ) → Terminal (getD top i 0)
   unfolding pins
@@ -126,30 +134,21 @@ module _ (top bottom : List ℕ) (fit : RowsFit top bottom) where
   unfolding pins
   bottom-terminal = terminal-of bottom (λ v. omega arith)
 
-  -- a net has a pin at some column
-  pub net-at : (v : ℕ) → IsNet top bottom v → (i : ℕ) × (i < length top) × ((getD top i 0 ≡ v) ⊎ (getD bottom i 0 ≡ v))
-  unfolding pins
-  net-at v net = go (decLt 0 (times v top)) (net .pinned)
-    where
-      go : Dec (0 < times v top) → 0 < times v top + times v bottom → (i : ℕ) × (i < length top) × ((getD top i 0 ≡ v) ⊎ (getD bottom i 0 ≡ v))
-      go (yes p) q = let (i, l, e) = times-at v top p in (i, l, inl e)
-      go (no p) q = let (i, l, e) = times-at v bottom (omega arith) in (i, omega (arith, fit .same), inr e)
-
-  -- and a rank in the order
+  -- a net has a rank in the order
   pub net-ranked : (v : ℕ) → IsNet top bottom v → rank v (netList top bottom) ≢ 0
   unfolding netList
-  net-ranked v net = let (i, l, e) = net-at v net in nets-has top bottom v i (length top) (net .number) l e
+  net-ranked v net = let (i, l, e) = pin-at top bottom (fit .same) v (net .pinned) in nets-has top bottom v i (length top) (net .number) l e
 
   -- they are 256 at most
   pub nets-few : length (netList top bottom) ≤ 256
-  unfolding netList
+  unfolding netList count
   nets-few =
       omega (
         arith,
         length-times (netsTo top bottom (length top)) 256 small,
         rank-times 0 (netsTo top bottom (length top)) (nets-none top bottom (length top)),
         sum-le (λ v. times v (netsTo top bottom (length top))) (λ v. 1) 256 (λ v. nets-once top bottom (suc v) (length top)),
-        sum-ones 256,
+        count-le (λ v. true) 256,
       )
     where
       within : (u : ℕ) → Terminal u → 256 < u → ⊥

@@ -5,16 +5,15 @@ use mathlib.Core.Logic.{inl, inr, _≢_}
 use mathlib.Core.Bool.{false, _||_}
 use mathlib.Core.List.{List, [], _∷_, map, map-map}
 use native.Mathlib.Omega.{arith}
-use native.Mathlib.Decide.{decLt}
 use lib.Dec.{eqb}
 use lib.ListN.{length, getD, length-map}
-use Rattle.grid.specs.Channel.{bit, times, over, count, pins, rowsRefused}
+use Rattle.grid.specs.Channel.{bit, over, count, pins, rowsRefused}
 use Rattle.grid.proofs.Tests.{le-ltb, eq-eqb, eqb-diff}
-use Rattle.grid.proofs.Counting.{times-at, sum-zero}
-use Rattle.grid.proofs.Rows.{RowsFit}
+use Rattle.grid.proofs.Counting.{sum-zero}
+use Rattle.grid.proofs.Rows.{RowsFit, HasPin}
 use Rattle.canonical.specs.Renaming.{rank, netsTo, netList, newNumber, newTop, newBottom, IsNet, Renames}
 use Rattle.canonical.proofs.Ranks.{suc-not, rank-map, times-map}
-use Rattle.canonical.proofs.Order.{Terminal, top-terminal, bottom-terminal, nets-all, nets-map, renamed-at}
+use Rattle.canonical.proofs.Order.{Terminal, top-terminal, bottom-terminal, pin-at, nets-all, nets-map, renamed-at}
 
 -- maps that agree on a row
 pub map-same : (f g : ℕ → ℕ) (l : List ℕ) → ((i : ℕ) → f (getD l i 0) ≡ g (getD l i 0)) → map f l ≡ map g l
@@ -60,15 +59,16 @@ module _ (top bottom : List ℕ) (fit : RowsFit top bottom) (f : ℕ → ℕ) (r
       (λ i. one _ _ (nets-all top bottom (Terminal top bottom fit) (inl refl) (top-terminal top bottom fit) (bottom-terminal top bottom fit) (length top) i) t)
 
   -- so the renamed rows are the same
+  same-row : (l : List ℕ) → ((i : ℕ) → Terminal top bottom fit (getD l i 0)) → map (newNumber (map f top) (map f bottom)) (map f l) ≡ map (newNumber top bottom) l
+  same-row l t =
+      map-map (newNumber (map f top) (map f bottom)) f l
+      ∙ map-same (λ v. newNumber (map f top) (map f bottom) (f v)) (newNumber top bottom) l (λ i. same-number (getD l i 0) (t i))
+
   pub same-top : newTop (map f top) (map f bottom) ≡ newTop top bottom
-  same-top =
-      map-map (newNumber (map f top) (map f bottom)) f top
-      ∙ map-same (λ v. newNumber (map f top) (map f bottom) (f v)) (newNumber top bottom) top (λ i. same-number (getD top i 0) (top-terminal top bottom fit i))
+  same-top = same-row top (top-terminal top bottom fit)
 
   pub same-bottom : newBottom (map f top) (map f bottom) ≡ newBottom top bottom
-  same-bottom =
-      map-map (newNumber (map f top) (map f bottom)) f bottom
-      ∙ map-same (λ v. newNumber (map f top) (map f bottom) (f v)) (newNumber top bottom) bottom (λ i. same-number (getD bottom i 0) (bottom-terminal top bottom fit i))
+  same-bottom = same-row bottom (bottom-terminal top bottom fit)
 
   -- a renamed net has the pins that it had
   pub same-pins : (v : ℕ) → Terminal top bottom fit v → pins (map f top) (map f bottom) (f v) ≡ pins top bottom v
@@ -78,16 +78,15 @@ module _ (top bottom : List ℕ) (fit : RowsFit top bottom) (f : ℕ → ℕ) (r
 
   -- a number that is not 0 and has a pin after the renaming is that of a renamed net
   came-from : (w : ℕ) → w ≢ 0 → 0 < pins (map f top) (map f bottom) w → (v : ℕ) × IsNet top bottom v × (f v ≡ w)
-  unfolding pins
-  came-from w n p = go (decLt 0 (times w (map f top)))
+  came-from w n p = let (i, l, t) = pin-at (map f top) (map f bottom) (length-map top f ∙ fit .same ∙ sym (length-map bottom f)) w p in go i t
     where
       net : (v : ℕ) → Terminal top bottom fit v → f v ≡ w → (u : ℕ) × IsNet top bottom u × (f u ≡ w)
       net v (inl a) e = absurd (n (sym e ∙ ap f a ∙ r .none))
       net v (inr a) e = (v, a, e)
 
-      go : Dec (0 < times w (map f top)) → (v : ℕ) × IsNet top bottom v × (f v ≡ w)
-      go (yes q) = let (i, l, e) = times-at w (map f top) q in net (getD top i 0) (top-terminal top bottom fit i) (sym (renamed-at f (r .none) top i) ∙ e)
-      go (no q) = let (i, l, e) = times-at w (map f bottom) (omega arith) in net (getD bottom i 0) (bottom-terminal top bottom fit i) (sym (renamed-at f (r .none) bottom i) ∙ e)
+      go : (i : ℕ) → HasPin (map f top) (map f bottom) w i → (v : ℕ) × IsNet top bottom v × (f v ≡ w)
+      go i (inl e) = net (getD top i 0) (top-terminal top bottom fit i) (sym (renamed-at f (r .none) top i) ∙ e)
+      go i (inr e) = net (getD bottom i 0) (bottom-terminal top bottom fit i) (sym (renamed-at f (r .none) bottom i) ∙ e)
 
   -- no net has one pin
   lone : (w : ℕ) → w ≢ 0 → pins (map f top) (map f bottom) w ≢ 1

@@ -16,7 +16,7 @@ use Rattle.record.specs.Record.{recordRead, topRow, bottomRow, laid, recordOf}
 use Rattle.record.proofs.Words.{Small, record-read, record-top, record-bottom}
 use Rattle.canonical.specs.Renaming.{newNumber, newTop, newBottom, IsNet, Renames}
 use Rattle.canonical.specs.Canonical.{canonical, recordSize, bytesAfter}
-use Rattle.canonical.proofs.Order.{Terminal, top-terminal, bottom-terminal, net-at, renamed-at}
+use Rattle.canonical.proofs.Order.{Terminal, top-terminal, bottom-terminal, pin-at, renamed-at}
 use Rattle.canonical.proofs.NewNumbers.{number-none, number-net, number-le, number-one, number-renames, netNumbered, net-numbered}
 use Rattle.canonical.proofs.Renamed.{map-same, same-top, same-bottom, renamed-accepted}
 use Rattle.canonical.proofs.Answers.{canonical-length, bytes-new}
@@ -91,7 +91,7 @@ module _ (top bottom top′ bottom′ : List ℕ) (fit : RowsFit top bottom) (fi
   -- a net keeps its new number
   turn-at : (v : ℕ) → IsNet top bottom v → newNumber top′ bottom′ (turn v) ≡ newNumber top bottom v
   unfolding turn
-  turn-at v net = let (i, l, t) = net-at top bottom fit v net in go i t
+  turn-at v net = let (i, l, t) = pin-at top bottom (fit .same) v (net .pinned) in go i t
     where
       by : (w : ℕ) → Terminal top′ bottom′ fit′ w → newNumber top bottom v ≡ newNumber top′ bottom′ w
           → newNumber top′ bottom′ (netNumbered top′ bottom′ fit′ (newNumber top bottom v)) ≡ newNumber top bottom v
