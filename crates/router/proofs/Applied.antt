@@ -69,7 +69,7 @@ module _ (top bottom : List ℕ) (ok : rowsRefused top bottom 256 ≡ 0) where
 
   -- the width is n at least
   pub width-least : length top ≤ width top bottom
-  unfolding Drawing.width
+  unfolding Drawing.widthBy
   width-least = omega arith
 
   -- n and half the tracks at most

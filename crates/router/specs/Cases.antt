@@ -59,8 +59,8 @@ unfolding Channel.times Channel.over Channel.sum Channel.count Channel.left Chan
     ManyPin.byKinds ManyPin.bothPins ManyPin.chooseMany Pairs.noMates Pairs.unpair Pairs.pairUp Pairs.latestTo ThreePin.threeWay ThreePin.eitherEnds ThreePin.joinElse ThreePin.bothGoOn
     ThreePin.topStarts ThreePin.bottomStarts ThreePin.bothStart ThreePin.topGoesOn ThreePin.bottomGoesOn ThreePin.byKinds ThreePin.chooseThree Drawing.freeOf Drawing.later Drawing.pinAt Drawing.extendedAt Drawing.wideAt Drawing.extendedNet
     Drawing.netToJoin Drawing.jointOf Drawing.loneDouble Drawing.latestDouble Drawing.otherDouble Drawing.doubleOf Drawing.endOf Drawing.endingAt Drawing.matesAfter Drawing.moveOf
-    Drawing.move Drawing.state Drawing.moveAt Drawing.drawn Drawing.remains Drawing.rest Drawing.joining Drawing.added Drawing.width
-    Drawing.layout Answers.sliceLength Answers.refused Answers.figures Answers.answer
+    Drawing.emptyAt Drawing.emptyColumn Drawing.move Drawing.stateBy Drawing.moveAt Drawing.drawnBy Drawing.remains Drawing.rest Drawing.joining Drawing.added Drawing.widthBy
+    Drawing.layoutBy Answers.sliceLength Answers.refused Answers.figures Answers.answer
 computing = tt
 
 -- every case is as the definitions have it

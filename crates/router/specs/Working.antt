@@ -21,10 +21,11 @@ use Rattle.sweep.specs.Tracks.{lowest, second, highest, many, clear, verticals}
 use Rattle.sweep.specs.declared.Move.{Move}
 use Rattle.sweep.specs.Pairs.{latestTo}
 use Rattle.sweep.specs.TwoPin.{chooseTwo}
-use Rattle.sweep.specs.ThreePin.{chooseThree}
+use Rattle.sweep.specs.ThreePin.{still, chooseThree}
+use Rattle.sweep.specs.ManyPin.{chooseMany}
 use Rattle.sweep.specs.Drawing.{kindBy, noPin, noJoint, freeOf, later, endOf, matesAfter, state, gap, moveAt, drawn, joining, remains}
 use Rattle.pairs.specs.Working.{LoneAt, LeastAbove, butFor, doubleBy}
-use Rattle.sweep.specs.Working.{Applies, Plain}
+use Rattle.sweep.specs.Working.{Applies, Plain, noPins, joinAlone}
 
 -- the tracks 1 to t of an array that holds track y at index y
 abbrev pub tracksIn : ℕ → List ℕ → List ℕ
@@ -153,7 +154,7 @@ IsLowestJoint last low high s tr c r = (N : Joint) → LowestJoint last low high
 
 -- x is what a column with the pins A and B of a two-pin channel does, with that net
 abbrev pub ChosenTwo : (t : ℕ) (A B : Pin) (last low high s tr : List ℕ) (c : ℕ) (x : Action) → Type 0
-ChosenTwo t A B last low high s tr c x = (N : Joint) → LowestJoint last low high s tr c N → x ≡ chooseTwo t A B (freeOf tr) N
+ChosenTwo t A B last low high s tr c x = (N : Joint) → LowestJoint last low high s tr c N → x ≡ pick (noPins A B) (joinAlone N) (chooseTwo t A B (freeOf tr) N)
 
 -- D is the one of the set l that ends last, as a double net, and M the lowest other one
 abbrev pub LatestIn : (last low high l : List ℕ) (D : Double) → Type 0
@@ -166,7 +167,13 @@ OtherIn last low high l M = (v : ℕ) → LeastAbove (butFor l (latestTo (λ v. 
 abbrev pub ChosenThree : (t : ℕ) (A B : Pin) (last low high s l tr : List ℕ) (c : ℕ) (x : Move) → Type 0
 ChosenThree t A B last low high s l tr c x =
     (N : Joint) (D M : Double) → LowestJoint last low high s tr c N → LatestIn last low high l D → OtherIn last low high l M
-    → x ≡ chooseThree t A B (getD last (A .net) 0) (getD last (B .net) 0) (freeOf tr) N D M
+    → x ≡ pick (noPins A B) (still (joinAlone N)) (chooseThree t A B (getD last (A .net) 0) (getD last (B .net) 0) (freeOf tr) N D M)
+
+-- x is what a column with the pins A and B of a many-pin channel does, with the net of rule 2, the lowest of s or else of w
+abbrev pub ChosenMany : (t : ℕ) (A B : Pin) (b : Bool) (last low high s w tr : List ℕ) (c : ℕ) (x : Action) → Type 0
+ChosenMany t A B b last low high s w tr c x =
+    (N : Joint) → ((v : ℕ) → ToJoin s w v → jointBy (getD last v 0) (getD low v 0) (second v tr) (getD high v 0) c v ≡ N)
+    → x ≡ pick (noPins A B) (joinAlone N) (chooseMany t A B (freeOf tr) N b)
 
 -- what the sweep of a channel of a family goes by
 pub record Ready (top bottom first last : List ℕ) (t : ℕ) (fam : Family) : Type 0 where

@@ -2,9 +2,7 @@
 use crate::index;
 use crate::nets;
 use crate::writer;
-use grid::Segments;
 use rules::actions;
-use sweep::Action;
 ghost use mathlib.Core.Path.{_≡_};
 ghost use Prim.Native.Nat.{_+_, _*_, _<_, _≤_};
 ghost use lib.ListN.{length, take, drop};
@@ -12,25 +10,8 @@ ghost use mathlib.Core.List.{_++_};
 ghost use Rattle.grid.specs.Channel.{count};
 ghost use Rattle.sets.specs.Member.{member};
 ghost use Rattle.sweep.specs.Tracks.{clear};
-ghost use Rattle.sweep.specs.Rules.{act, noTrack};
 ghost use Rattle.sweep.specs.Drawing.{remains, added};
 ghost use Rattle.router.specs.Working.{tracksIn, Holds, NetsOnly, Remaining, withJoining};
-
-// The action that joins the strands of a net, from the lowest to the highest, and nothing else.
-fn joining(v: u16, low: u16, high: u16) -> Action
-    ensures { λ r. ⌜ r ≡ act (record { bottom = 0; low = 0; start = low; middle = v; stop = high; high = high; top = 0 }) v 0 noTrack noTrack noTrack ⌝ }
-{
-    let wires = Segments {
-        bottom: 0,
-        low: 0,
-        start: low,
-        middle: v,
-        stop: high,
-        high,
-        top: 0,
-    };
-    actions::one_gift(wires, v, actions::no_track())
-}
 
 // Adds the column that joins net v, as column w + 1.
 fn join_net(
@@ -52,7 +33,7 @@ fn join_net(
     ensures { λ _. ⌜ now (layout .exit) ≡ withJoining t (tracksIn t (now (tracks .entry))) v w (now (layout .entry)) ⌝ }
 {
     let i = v as usize;
-    let x = joining(v, low[i], high[i]);
+    let x = actions::join_strands(v, low[i], high[i]);
     index::drop_net(tracks, free, low, high, many, t, v);
     writer::write_at(layout, w * (2 * t + 1), tracks, t, x);
 }

@@ -19,7 +19,9 @@ ghost use Rattle.sets.specs.Member.{member};
 ghost use Rattle.sweep.specs.Pairs.{latestTo};
 ghost use Rattle.pairs.specs.Working.{LeastAbove, butFor};
 ghost use Rattle.sweep.specs.Drawing.{move as moveBy};
-ghost use Rattle.router.specs.Working.{tracksIn, Frees, LowsAndHighs, Next, IsLowestJoint, ChosenTwo, ChosenThree, Ready, Keeps, Mated};
+ghost use Rattle.sweep.specs.Working.{Kinded};
+ghost use Rattle.router.specs.Working.{tracksIn, Frees, LowsAndHighs, Next, ToJoin, Ready, Keeps, Mated};
+ghost use Rattle.router.specs.Working.{IsLowestJoint, ChosenTwo, ChosenThree, ChosenMany};
 
 // The net that rule 2 of a two-pin channel joins in column c + 1: the lowest of the extended ones.
 fn lowest_joint(
@@ -40,7 +42,7 @@ fn lowest_joint(
     nets::joint_at(tracks, last, low, high, t, c, nets::lowest_net(extended))
 }
 
-// What column c + 1 of a two-pin channel does; only starting pins ask for the free tracks and the net of rule 2.
+// What column c + 1 of a two-pin channel does; starting pins ask for the net of rule 2 and the free tracks, a column without pins for that net.
 fn pair_column(
     a: Pin,
     b: Pin,
@@ -54,6 +56,7 @@ fn pair_column(
     t: usize,
 ) -> Action
     requires { ⌜ (a .kind ≤ 3) × (b .kind ≤ 3) × (c < 256) × (t ≤ 511) × (length (now tracks) ≡ 512) × Frees t (now tracks) (now free) ⌝ }
+    requires { ⌜ Kinded a × Kinded b ⌝ }
     requires { ⌜ LowsAndHighs (now low) (now high) (tracksIn t (now tracks)) ⌝ }
     requires { ⌜ ((v : ℕ) → Next (now extended) 0 v → v ≤ 256) ⌝ }
     ensures { λ r. ⌜ ChosenTwo t a b (now (last .entry)) (now (low .entry)) (now (high .entry)) (now (extended .entry))
@@ -63,7 +66,7 @@ fn pair_column(
         return actions::go_full(t as u16 + 1, a.net, 0);
     }
     match 4 * a.kind + b.kind {
-        0 => actions::go_straight(),
+        0 => actions::join_alone(lowest_joint(tracks, last, low, high, extended, t, c)),
         1 => choose::bottom_starts(
             a,
             b,
@@ -148,7 +151,34 @@ fn three_column(
     three_pin::choose_three(last_row, a, b, ea, eb, f, n, d, m)
 }
 
-// What column c + 1 does; by the sweep of its family.
+// What column c + 1 of a many-pin channel does; `later` tells whether the top pin's net has later pins.
+fn many_column(
+    a: Pin,
+    b: Pin,
+    later: bool,
+    c: u16,
+    tracks: &[u16; 512],
+    free: &[u64; 8],
+    last: &[u16; 257],
+    low: &[u16; 257],
+    high: &[u16; 257],
+    extended: &[u64; 8],
+    wide: &[u64; 8],
+    t: usize,
+) -> Action
+    requires { ⌜ (c < 256) × (t ≤ 511) × (length (now tracks) ≡ 512) × Frees t (now tracks) (now free) ⌝ }
+    requires { ⌜ LowsAndHighs (now low) (now high) (tracksIn t (now tracks)) ⌝ }
+    requires { ⌜ ((v : ℕ) → ToJoin (now extended) (now wide) v → v ≤ 256) ⌝ }
+    ensures { λ r. ⌜ ChosenMany t a b later (now (last .entry)) (now (low .entry)) (now (high .entry)) (now (extended .entry)) (now (wide .entry))
+        (tracksIn t (now (tracks .entry))) c r ⌝ }
+{
+    let f = nets::free_tracks(free);
+    let v = nets::net_to_join(extended, wide);
+    let n = nets::joint_at(tracks, last, low, high, t, c, v);
+    many_pin::choose_many(t as u16 + 1, a, b, f, n, later)
+}
+
+// What column c + 1 does, by the sweep of its family.
 pub(crate) fn column_at(
     top: &[u16],
     bottom: &[u16],
@@ -178,31 +208,28 @@ pub(crate) fn column_at(
     let a = pins::pin_at(first, last, low, high, many, k, p);
     let b = pins::pin_at(first, last, low, high, many, k, bottom[c]);
     match family {
-        Family::TwoPin => three_pin::still(pair_column(
-            a,
-            b,
-            k,
-            tracks,
-            free,
-            last,
-            low,
-            high,
-            extended,
-            t,
-        )),
+        Family::TwoPin => {
+            let x = pair_column(a, b, k, tracks, free, last, low, high, extended, t);
+            three_pin::still(x)
+        }
         Family::ThreePin => three_column(a, b, k, tracks, free, last, low, high, extended, lone, t),
         Family::ManyPin => {
-            let f = nets::free_tracks(free);
-            let v = nets::net_to_join(extended, wide);
-            let n = nets::joint_at(tracks, last, low, high, t, k, v);
-            three_pin::still(many_pin::choose_many(
-                t as u16 + 1,
+            let later = pins::later_than(last, k, p);
+            let x = many_column(
                 a,
                 b,
-                f,
-                n,
-                pins::later_than(last, k, p),
-            ))
+                later,
+                k,
+                tracks,
+                free,
+                last,
+                low,
+                high,
+                extended,
+                wide,
+                t,
+            );
+            three_pin::still(x)
         }
     }
 }

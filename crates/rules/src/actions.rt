@@ -10,7 +10,8 @@ ghost use Prim.Native.Nat.{ℕ, _+_};
 ghost use lib.Dec.{eqb};
 ghost use Rattle.grid.specs.Channel.{pick};
 ghost use Rattle.sweep.specs.Rules.{pinWires, goes as goesTo, noTrack, act, straight, full, taken, joinNet};
-ghost use Rattle.sweep.specs.Rules.{topTakesFree, bottomTakesFree, bothTakeFree, topEnds, bottomEnds, bothJoin, bothEnd};
+ghost use Rattle.sweep.specs.Rules.{topTakesFree, bottomTakesFree, bothTakeFree, topEnds, bottomEnds, bothJoin, bothEnd, joinOnly};
+ghost use Rattle.sweep.specs.Working.{joinAlone};
 
 // The wires of two pins: the bottom net b up to row q, the top net a down to row p.
 pub fn pin_wires(b: u16, q: u16, a: u16, p: u16) -> Segments
@@ -113,6 +114,32 @@ pub fn join_net(n: Joint, a: u16, b: u16) -> Action
         goes(track_beside(a, n.net, n.high), a),
         goes(track_later(n.later, n.second), n.net),
     )
+}
+
+// The strands of net v, the lowest on track `low` and the highest on track `high`, are joined, and nothing else is done.
+pub fn join_strands(v: u16, low: u16, high: u16) -> Action
+    ensures { λ r. ⌜ r ≡ joinOnly v low high ⌝ }
+{
+    let wires = Segments {
+        bottom: 0,
+        low: 0,
+        start: low,
+        middle: v,
+        stop: high,
+        high,
+        top: 0,
+    };
+    one_gift(wires, v, no_track())
+}
+
+// What a column without pins does: the net of rule 2 is joined if it has no later pins, else all runs straight.
+pub fn join_alone(n: Joint) -> Action
+    ensures { λ r. ⌜ r ≡ joinAlone n ⌝ }
+{
+    if (n.net == 0) | n.later {
+        return go_straight();
+    }
+    join_strands(n.net, n.low, n.high)
 }
 
 pub fn top_takes_free(f: Free, a: u16) -> Action

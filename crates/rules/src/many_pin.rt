@@ -9,6 +9,7 @@ ghost use Prim.Native.Nat.{ℕ, _+_, min};
 ghost use lib.Dec.{eqb};
 ghost use Rattle.grid.specs.Channel.{pick};
 ghost use Rattle.sweep.specs.Rules.{kindOf};
+ghost use Rattle.sweep.specs.Working.{noPins, joinAlone};
 ghost use Rattle.sweep.specs.ManyPin.{chooseMany, direct, topContinues, bottomContinues, bothContinue, bothPins, byKinds};
 
 // Each pin goes direct: the bottom net up to row q, the top net down to row p.
@@ -142,13 +143,13 @@ fn both_pins(last: u16, a: Pin, f: Free, n: Joint, later: bool) -> Action
     actions::go_full(last, a.net, 0)
 }
 
-// What a column does. The last row is t + 1; `later` tells whether the top pin's net has later pins.
+// What a column does, also one without pins. The last row is t + 1; `later` tells whether the top pin's net has later pins.
 pub fn choose_many(last: u16, a: Pin, b: Pin, f: Free, n: Joint, later: bool) -> Action
-    ensures { λ r. ⌜ ((t : ℕ) → last ≡ t + 1 → r ≡ chooseMany t a b f n later) ⌝ }
+    ensures { λ r. ⌜ ((t : ℕ) → last ≡ t + 1 → r ≡ pick (noPins a b) (joinAlone n) (chooseMany t a b f n later)) ⌝ }
 {
     if a.net == b.net {
         if a.net == 0 {
-            return actions::go_straight();
+            return actions::join_alone(n);
         }
         return both_pins(last, a, f, n, later);
     }

@@ -10,8 +10,10 @@ use sweep::Joint;
 use sweep::Move;
 use sweep::Pin;
 ghost use mathlib.Core.Path.{_≡_};
+ghost use Rattle.grid.specs.Channel.{pick};
 ghost use Prim.Native.Nat.{ℕ, _+_};
 ghost use Rattle.sweep.specs.Rules.{kindOf};
+ghost use Rattle.sweep.specs.Working.{noPins, joinAlone};
 ghost use Rattle.sweep.specs.Drawing.{noJoint};
 ghost use Rattle.sweep.proofs.Rules.Kinds.{mayJoin};
 ghost use Rattle.sweep.specs.ThreePin.{pairing as withPair, still as withoutPair, reduce as reducing, beside as besideOf, threeWay, eitherEnds, bothGoOn};
@@ -194,7 +196,7 @@ fn may_join(k: u16, l: u16) -> bool
     (k < 3) & (l < 3) & ((0 < k) | (0 < l))
 }
 
-// What a column does. The last row is t + 1; the nets of its pins end at the columns ea and eb.
+// What a column does, also one without pins. The last row is t + 1; the nets of its pins end at the columns ea and eb.
 pub fn choose_three(
     last: u16,
     a: Pin,
@@ -206,11 +208,12 @@ pub fn choose_three(
     d: Double,
     m: Double,
 ) -> Move
-    ensures { λ r. ⌜ ((t : ℕ) → last ≡ t + 1 → r ≡ chooseThree t a b ea eb f n d m) ⌝ }
+    ensures { λ r. ⌜ ((t : ℕ) → last ≡ t + 1
+        → r ≡ pick (noPins a b) (withoutPair (joinAlone n)) (chooseThree t a b ea eb f n d m)) ⌝ }
 {
     if a.net == b.net {
         if a.net == 0 {
-            return still(actions::go_straight());
+            return still(actions::join_alone(n));
         }
         return still(actions::go_full(last, a.net, 0));
     }

@@ -1,4 +1,4 @@
--- The sweeps on t tracks: the tracks and the pairs in each gap, the columns, the columns added, the width and the layout.
+-- The sweeps on t tracks: what a column does, the tracks and the pairs in each gap, the columns, the columns added, the width and the layout.
 use Prim.Native.Nat.{ℕ, zero, suc, _+_}
 use mathlib.Core.Bool.{Bool, true, false, not, _&&_}
 use mathlib.Core.List.{List, [], _++_}
@@ -18,7 +18,7 @@ use Rattle.sweep.specs.declared.Move.{Move}
 use Rattle.sweep.specs.Tracks
 use Rattle.sweep.specs.Tracks.{lowest, second, highest, many, lowestNet, clear, verticals, after}
 use Rattle.sweep.specs.Rules
-use Rattle.sweep.specs.Rules.{act, noTrack}
+use Rattle.sweep.specs.Rules.{straight, joinOnly}
 use Rattle.sweep.specs.TwoPin
 use Rattle.sweep.specs.TwoPin.{chooseTwo}
 use Rattle.sweep.specs.ManyPin
@@ -111,14 +111,24 @@ module _ (top bottom : List ℕ) where
   unfoldable pub matesAfter : ℕ → Move → List ℕ → List ℕ
   matesAfter c x m = pairUp (x .double) (x .single) (unpair (endingAt c (getD bottom c 0)) (unpair (endingAt c (getD top c 0)) m))
 
--- the tracks and the mates in a gap
-pub record SweepState : Type 0 where
-  pub tracks : List ℕ
-  pub mates : List ℕ
+-- the strands of net v on the tracks tr are joined, and nothing else is done
+unfoldable pub joining : List ℕ → ℕ → Action
+joining tr v = joinOnly v (lowest v tr) (highest v tr)
 
--- THE SWEEP on t tracks
+module _ (top bottom : List ℕ) where
+  -- document 02, Job 7: "a column has no pin", column c + 1
+  unfoldable pub emptyAt : ℕ → Bool
+  emptyAt c = eqb (getD top c 0) 0 && eqb (getD bottom c 0) 0
+
+  -- "Where a column has no pin and a net is stretched, the sweep is to join the lowest-numbered stretched net there." Where none is, all runs straight
+  unfoldable pub emptyColumn : ℕ → List ℕ → Action
+  emptyColumn c tr =
+      let v = extendedNet top bottom c tr in
+      pick (eqb v 0) straight (joining tr v)
+
+-- WHAT A COLUMN DOES, on t tracks
 module _ (t : ℕ) (top bottom : List ℕ) where
-  -- what column c + 1 does in the sweep of a family: "Channels of two-pin nets", those of document 02, Job 3, "Channels with a net of three or more pins"
+  -- what column c + 1 does by the rules of a family: "Channels of two-pin nets", those of document 02, Job 3, "Channels with a net of three or more pins"
   unfoldable pub moveOf : Family → ℕ → (tr m : List ℕ) → Move
   moveOf TwoPin c tr m =
       let A = pinAt top bottom c tr (getD top c 0) in
@@ -136,30 +146,33 @@ module _ (t : ℕ) (top bottom : List ℕ) where
       let B = pinAt top bottom c tr (getD bottom c 0) in
       still (chooseMany t A B (freeOf tr) (jointOf top bottom c tr (netToJoin top bottom c tr)) (later top bottom (suc c) (getD top c 0)))
 
-  -- what column c + 1 does, by the channel's family
+  -- what it does by these rules alone, as the sweeps did before document 02, Job 7
+  abbrev pub moveBefore : ℕ → (tr m : List ℕ) → Move
+  moveBefore = moveOf (family top bottom)
+
+  -- what column c + 1 does: "This holds for all sweeps"
   unfoldable pub move : ℕ → (tr m : List ℕ) → Move
-  move = moveOf (family top bottom)
+  move c tr m = pick (emptyAt top bottom c) (still (emptyColumn top bottom c tr)) (moveBefore c tr m)
 
+-- the tracks and the mates in a gap
+pub record SweepState : Type 0 where
+  pub tracks : List ℕ
+  pub mates : List ℕ
+
+-- THE SWEEP on t tracks in which column c + 1 does x c tr m, where tr are the tracks and m the mates in gap c
+module _ (t : ℕ) (top bottom : List ℕ) (x : ℕ → (tr m : List ℕ) → Move) where
   -- the tracks and the mates in gap c; in gap 0 all tracks are free
-  unfoldable pub state : ℕ → SweepState
-  state zero = record { tracks = replicate t 0; mates = noMates }
-  state (suc c) =
-      let s = state c in
-      let x = move c (s .tracks) (s .mates) in
-      record { tracks = after (x .action) (s .tracks); mates = matesAfter top bottom c x (s .mates) }
-
-  -- the tracks in gap c
-  abbrev pub gap : ℕ → List ℕ
-  gap c = state c .tracks
-
-  -- what column c + 1 does in the sweep
-  unfoldable pub moveAt : ℕ → Move
-  moveAt c = move c (state c .tracks) (state c .mates)
+  unfoldable pub stateBy : ℕ → SweepState
+  stateBy zero = record { tracks = replicate t 0; mates = noMates }
+  stateBy (suc c) =
+      let s = stateBy c in
+      let y = x c (s .tracks) (s .mates) in
+      record { tracks = after (y .action) (s .tracks); mates = matesAfter top bottom c y (s .mates) }
 
   -- the entries of the columns 1 to c: each column's "vertical edges from row 0 upward, then the horizontal edges leaving to the right"
-  unfoldable pub drawn : ℕ → List ℕ
-  drawn zero = []
-  drawn (suc c) = drawn c ++ (verticals t (moveAt c .action) ++ gap (suc c))
+  unfoldable pub drawnBy : ℕ → List ℕ
+  drawnBy zero = []
+  drawnBy (suc c) = drawnBy c ++ (verticals t (x c (stateBy c .tracks) (stateBy c .mates) .action) ++ stateBy (suc c) .tracks)
 
 -- THE COLUMNS ADDED: here g are the tracks in the gap after column n
 -- net v still has strands there: it is extended
@@ -171,28 +184,42 @@ unfoldable pub rest : List ℕ → ℕ → List ℕ
 rest g zero = g
 rest g (suc v) = clear (suc v) (rest g v)
 
--- the action that joins the strands of net v on the tracks tr, and nothing else
-unfoldable pub joining : List ℕ → ℕ → Action
-joining tr v =
-    act
-    (record { bottom = 0; low = 0; start = lowest v tr; middle = v; stop = highest v tr; high = highest v tr; top = 0 })
-    v
-    0
-    noTrack
-    noTrack
-    noTrack
-
 -- "After column n, one column is added for each stretched net, lowest number first, joining its tracks": the columns of the nets 1 to v, on t tracks
 unfoldable pub added : ℕ → List ℕ → ℕ → List ℕ
 added t g zero = []
 added t g (suc v) = added t g v ++ pick (remains g (suc v)) (verticals t (joining (rest g v) (suc v)) ++ rest g (suc v)) []
 
--- THE DRAWING on t tracks
-module _ (t : ℕ) (top bottom : List ℕ) where
+-- THE DRAWING of such a sweep
+module _ (t : ℕ) (top bottom : List ℕ) (x : ℕ → (tr m : List ℕ) → Move) where
   -- "its width is n plus the columns that the sweep below adds after column n"
-  unfoldable pub width : ℕ
-  width = let g = gap t top bottom (length top) in length top + count (remains g) 256
+  unfoldable pub widthBy : ℕ
+  widthBy = let g = stateBy t top bottom x (length top) .tracks in length top + count (remains g) 256
 
   -- the drawing: the columns 1 to n, then the columns added
-  unfoldable pub layout : List ℕ
-  layout = let g = gap t top bottom (length top) in drawn t top bottom (length top) ++ added t g 256
+  unfoldable pub layoutBy : List ℕ
+  layoutBy = let g = stateBy t top bottom x (length top) .tracks in drawnBy t top bottom x (length top) ++ added t g 256
+
+-- THE SWEEP AND ITS DRAWING on t tracks: every column does what `move` says
+module _ (t : ℕ) (top bottom : List ℕ) where
+  -- the tracks and the mates in gap c
+  abbrev pub state : ℕ → SweepState
+  state = stateBy t top bottom (move t top bottom)
+
+  -- the tracks in gap c
+  abbrev pub gap : ℕ → List ℕ
+  gap c = state c .tracks
+
+  -- what column c + 1 does in the sweep
+  unfoldable pub moveAt : ℕ → Move
+  moveAt c = move t top bottom c (state c .tracks) (state c .mates)
+
+  -- the entries of the columns 1 to c
+  abbrev pub drawn : ℕ → List ℕ
+  drawn = drawnBy t top bottom (move t top bottom)
+
+  -- the width and the layout
+  abbrev pub width : ℕ
+  width = widthBy t top bottom (move t top bottom)
+
+  abbrev pub layout : List ℕ
+  layout = layoutBy t top bottom (move t top bottom)

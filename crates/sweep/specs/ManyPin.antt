@@ -1,5 +1,6 @@
 -- Document 01, "Channels with a net of three or more pins (t = 2d - 1)": the rules. "The first rule that fits is used."
 -- Document 02, Job 3, leaves them "the other channels with a net of three or more pins", those that `ThreePin` does not draw.
+-- Of columns without pins, "No pins", these are the rules before document 02, Job 7; `Drawing` has the one of now, for all sweeps.
 -- A is the column's top pin, B its bottom pin, f the two lowest free tracks, N the net of rule 2 (net 0: none),
 -- later whether the top pin's net has pins after the column.
 use Prim.Native.Nat.{ℕ}

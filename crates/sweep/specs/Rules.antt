@@ -94,3 +94,7 @@ liesBelow A B = ltb (B .high) (A .low)
 -- "If s < r both join. Else the top net joins and the bottom net takes r beside s: it is stretched"; "Else the top net ends if its pin is an ending one"
 unfoldable pub bothEnd : (A B : Pin) → Action
 bothEnd A B = pick (liesBelow A B) (bothJoin A B) (topEnds A B)
+
+-- "joining its tracks": the strands of net v are joined, the lowest on track a, the highest on track b, and nothing else is done
+abbrev pub joinOnly : (v a b : ℕ) → Action
+joinOnly v a b = act (record { bottom = 0; low = 0; start = a; middle = v; stop = b; high = b; top = 0 }) v 0 noTrack noTrack noTrack

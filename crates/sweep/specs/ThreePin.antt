@@ -1,5 +1,6 @@
 -- Source document 000, part (b), as document 02, Job 3, orders it (t = 3d/2 rounded down): the rules, with every open choice decided. docs/THREE-PIN.md has
 -- them in words. "The first rule that fits is used."
+-- Of columns without pins, "No pins", these are the rules before document 02, Job 7; `Drawing` has the one of now, for all sweeps.
 -- A is the column's top pin, B its bottom pin, ea and eb the last columns of their nets, f the two lowest free tracks, N the lowest-numbered extended net,
 -- D the unpaired double net that ends last, M the lowest-numbered other one (net 0: none).
 use Prim.Native.Nat.{ℕ}

@@ -1,4 +1,5 @@
 -- Document 01, "Channels of two-pin nets (t = d)": the rules. "The first rule that fits is used."
+-- Of columns without pins, "No pins", these are the rules before document 02, Job 7; `Drawing` has the one of now, for all sweeps.
 -- A is the column's top pin, B its bottom pin, f the two lowest free tracks, N the lowest-numbered extended net (net 0: none).
 use Prim.Native.Nat.{ℕ}
 use mathlib.Core.Bool.{not, _&&_}

@@ -1,10 +1,16 @@
--- What the laws of actions and the code that applies one go by: each track that an action gives is free by then, and it names the column's
--- nets alone. No promise of a public call rests on these.
+-- What the laws of actions and the code that chooses and applies one go by: each track that an action gives is free by then, and it names the column's
+-- nets alone; what a column without pins does. No promise of a public call rests on these.
 use Prim.Native.Nat.{ℕ, zero, suc, _≤_, _<_}
 use mathlib.Core.Path.{_≡_}
+use mathlib.Core.Bool.{Bool, _&&_, _||_}
 use mathlib.Core.List.{List}
+use lib.Dec.{eqb}
 use lib.ListN.{length, getD}
+use Rattle.grid.specs.Channel.{pick}
 use Rattle.sweep.specs.declared.Action.{Action}
+use Rattle.sweep.specs.declared.Joint.{Joint}
+use Rattle.sweep.specs.declared.Pin.{Pin}
+use Rattle.sweep.specs.Rules.{straight, joinOnly}
 use Rattle.sweep.specs.Tracks.{clear, give}
 
 -- track y is free; 0 is no track
@@ -36,3 +42,15 @@ pub record Plain (P Q : ℕ) (x : Action) : Type 0 where
   pub net1 : Named P Q (x .ended) (x .gift1 .net)
   pub net2 : Named P Q (x .ended) (x .gift2 .net)
   pub net3 : Named P Q (x .ended) (x .gift3 .net)
+
+-- a column with the pins A and B has none
+abbrev pub noPins : (A B : Pin) → Bool
+noPins A B = eqb (A .net) 0 && eqb (B .net) 0
+
+-- what a column without pins does, by the net N of rule 2: N is joined if it has no pins to come, else all runs straight
+unfoldable pub joinAlone : Joint → Action
+joinAlone N = pick (eqb (N .net) 0 || N .later) straight (joinOnly (N .net) (N .low) (N .high))
+
+-- a pin is of kind 0, none, just where it has no net
+abbrev pub Kinded : Pin → Type 0
+Kinded A = (A .kind ≡ 0 → A .net ≡ 0) × (A .net ≡ 0 → A .kind ≡ 0)

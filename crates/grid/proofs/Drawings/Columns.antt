@@ -30,30 +30,30 @@ pub record Column (t P Q : ℕ) (L U R : ℕ → ℕ) : Type 0 where
 
 -- A COLUMN BEHIND k OTHERS
 
-module _ (t k : ℕ) (D U R : List ℕ) (size : length D ≡ k * (2 * t + 1)) (high : length U ≡ t + 1) (along : length R ≡ t) where
-  -- the others are as they were
-  column-old : (x : ℕ) → x < k → columnOf (D ++ (U ++ R)) t x ≡ columnOf D t x
-  column-old x p =
-      let g : suc x * (2 * t + 1) ≤ k * (2 * t + 1) = mul-le-mul-right (2 * t + 1) p in
-      let a : x * (2 * t + 1) ≤ length D = omega arith in
-      let b : 2 * t + 1 ≤ length (drop (x * (2 * t + 1)) D) = rw length-drop (omega arith) in
-      rw (drop-append-le, take-append-le)
+-- the others are as they were, whatever stands behind them
+pub column-front : (t k : ℕ) (D E : List ℕ) → length D ≡ k * (2 * t + 1) → (x : ℕ) → x < k → columnOf (D ++ E) t x ≡ columnOf D t x
+column-front t k D E size x p =
+    let g : suc x * (2 * t + 1) ≤ k * (2 * t + 1) = mul-le-mul-right (2 * t + 1) p in
+    let a : x * (2 * t + 1) ≤ length D = omega arith in
+    let b : 2 * t + 1 ≤ length (drop (x * (2 * t + 1)) D) = rw length-drop (omega arith) in
+    rw (drop-append-le, take-append-le)
 
+module _ (t k : ℕ) (D U R : List ℕ) (size : length D ≡ k * (2 * t + 1)) (high : length U ≡ t + 1) (along : length R ≡ t) where
   -- and so are their entries
   v-old : (x : ℕ) → x < k → verticalOf (D ++ (U ++ R)) t x ≡ verticalOf D t x
   unfolding verticalOf
-  v-old x p = fun-ext (λ y. ap (λ (c : List ℕ). getD (take (t + 1) c) y 0) (column-old x p))
+  v-old x p = fun-ext (λ y. ap (λ (c : List ℕ). getD (take (t + 1) c) y 0) (column-front t k D (U ++ R) size x p))
 
   h-old : (x : ℕ) → x < k → horizontalOf (D ++ (U ++ R)) t x ≡ horizontalOf D t x
   unfolding horizontalOf
-  h-old x p = fun-ext (λ y. ap (λ (c : List ℕ). getD (drop (t + 1) c) y 0) (column-old x p))
+  h-old x p = fun-ext (λ y. ap (λ (c : List ℕ). getD (drop (t + 1) c) y 0) (column-front t k D (U ++ R) size x p))
 
   comes-old : (x : ℕ) → x ≤ k → comesTo (horizontalOf (D ++ (U ++ R)) t) x ≡ comesTo (horizontalOf D t) x
   comes-old zero p = refl
   comes-old (suc x) p = h-old x p
 
   -- the new one has the entries that were put there
-  column-new : columnOf (D ++ (U ++ R)) t k ≡ U ++ R
+  pub column-new : columnOf (D ++ (U ++ R)) t k ≡ U ++ R
   column-new = rw (drop-at D (U ++ R) (k * (2 * t + 1)) size) (take-all (2 * t + 1) (U ++ R) (rw length-append (omega arith)))
 
   v-new : verticalOf (D ++ (U ++ R)) t k ≡ (λ y. getD U y 0)

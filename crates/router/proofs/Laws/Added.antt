@@ -8,16 +8,16 @@ use native.Mathlib.Numerals.{add-one}
 use native.Mathlib.Omega.{arith}
 use lib.Dec.{eqb}
 use borrow.Author.Tests.{ne-eqb}
-use lib.ListN.{length, take, drop, getD, length-append, take-append-drop}
+use lib.ListN.{length, take, drop, length-append, take-append-drop}
 use lib.Seq.{take-at, drop-at, drop-drop, length-take-le, drop-append-add}
 use Rattle.grid.specs.Channel.{pick, bit, count}
 use Rattle.grid.proofs.Tests.{and-true, not-both}
 use Rattle.grid.proofs.Sums.{sum-same}
 use Rattle.sets.specs.Member.{member}
 use Rattle.sweep.specs.declared.Action.{Action}
-use Rattle.sweep.specs.Tracks.{clear, verticals}
-use Rattle.sweep.specs.Drawing.{gap, drawn, rest, joining, remains, added, width, layout}
-use Rattle.sweep.specs.Rules.{act, noTrack}
+use Rattle.sweep.specs.Tracks.{lowest, highest, clear, verticals}
+use Rattle.sweep.specs.Rules.{joinOnly}
+use Rattle.sweep.specs.Drawing.{gap, drawn, rest, joining, remains, added, widthBy, width, layoutBy, layout}
 use Rattle.router.specs.Working.{tracksIn, Holds, Next, NetsOnly, Remaining, DrawnTo, withColumn, withJoining}
 use Rattle.sweep.proofs.Drawing.Added as solved
 use Rattle.sweep.proofs.Tracks.Strands.{many-times}
@@ -29,15 +29,16 @@ use Rattle.router.proofs.Laws.Onward.{Onward, reached, onward-first, on
 
 -- ---- one net
 
+-- the join of net v, by its lowest and its highest strand
+pub joining-is : (tr : List ℕ) (v a b : ℕ) (x : Action) → x ≡ joinOnly v a b → a ≡ lowest v tr → b ≡ highest v tr → x ≡ joining tr v
+unfolding joining
+joining-is tr v a b x e l h = cc
+
 -- the column that joins net v, written into its part of the layout
-pub joining-written : (t : ℕ) (d f low high number : List ℕ) (v w : ℕ) (l l′ : List ℕ) (x : Action) {a′ f′ low′ high′ number′ : List ℕ} → 0 < v → v ≤ 256
-    → Holds t (tracksIn t d) d f low high number
-    → x ≡ act (record { bottom = 0; low = 0; start = getD low v 0; middle = v; stop = getD high v 0; high = getD high v 0; top = 0 }) v 0 noTrack noTrack noTrack
+pub joining-written : (t : ℕ) (d : List ℕ) (v w : ℕ) (l l′ : List ℕ) (x : Action) {a′ f′ low′ high′ number′ : List ℕ} → x ≡ joining (tracksIn t d) v
     → Holds t (clear v (tracksIn t d)) a′ f′ low′ high′ number′ → l′ ≡ withColumn t (w * (2 * t + 1)) x (tracksIn t a′) l → l′ ≡ withJoining t (tracksIn t d) v w l
-unfolding withJoining joining
-joining-written t d f low high number v w l l′ x {a′} hv hb h ex u el =
-    let jx : x ≡ joining (tracksIn t d) v = ex ∙ cc (h .lows .at v hv hb, h .highs .at v hv hb) in
-    el ∙ cc (u .is)
+unfolding withJoining
+joining-written t d v w l l′ x e u el = el ∙ cc (u .is)
 
 -- ---- all nets
 
@@ -191,7 +192,7 @@ first-fit p n each l h =
 module _ (t : ℕ) (top bottom : List ℕ) where
   -- the width by the tracks left
   width-is : length top + count (remains (gap t top bottom (length top))) 256 ≡ width t top bottom
-  unfolding width
+  unfolding widthBy
   width-is = refl
 
   module _ {a f l h n : List ℕ} (w : Holds t (gap t top bottom (length top)) a f l h n) where
@@ -208,7 +209,7 @@ module _ (t : ℕ) (top bottom : List ℕ) where
     drawn-and-added : (l₀ l₁ l₂ : List ℕ) (r : ℕ) → l₁ ≡ drawn t top bottom (length top) ++ drop (length top * (2 * t + 1)) l₀ → length (drawn t top bottom (length top)) ≡ length top * (2 * t + 1)
         → r ≡ length top + count (remains (tracksIn t a)) 256
         → l₂ ≡ take (length top * (2 * t + 1)) l₁ ++ (added t (tracksIn t a) 256 ++ drop (r * (2 * t + 1)) l₁) → l₂ ≡ layout t top bottom ++ drop (r * (2 * t + 1)) l₀
-    unfolding layout
+    unfolding layoutBy
     drawn-and-added l₀ l₁ l₂ r e1 el er e2 =
         let D : List ℕ = drawn t top bottom (length top) in
         let k : ℕ = count (remains (tracksIn t a)) 256 in

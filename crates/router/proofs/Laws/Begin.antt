@@ -14,7 +14,7 @@ use Rattle.grid.specs.Working.{ByNet}
 use Rattle.sets.specs.Member.{member}
 use Rattle.sweep.specs.Tracks.{strands, first, last, lowest, highest, many}
 use Rattle.sweep.specs.Drawing
-use Rattle.sweep.specs.Drawing.{state, gap, remains}
+use Rattle.sweep.specs.Drawing.{stateBy, state, gap, remains}
 use Rattle.sweep.specs.Pairs.{noMates}
 use Rattle.pairs.specs.Working.{loneBy}
 use Rattle.router.specs.Working.{tracksIn, Frees, Holds, Spans, Marked, Mated, AtGap, Remaining, extendedBy, wideBy, blank, noNets}
@@ -36,7 +36,7 @@ none-indexed g e t n en = record { size = length-replicate {A = ℕ} n 0 ∙ en;
 -- blank arrays hold gap 0
 blank-holds : (top bottom : List ℕ) (t : ℕ) (a f l h n : List ℕ) → t ≤ 511 → a ≡ blank → Frees t blank f → l ≡ noNets → h ≡ noNets → n ≡ noNets
     → Holds t (gap t top bottom 0) a f l h n
-unfolding state blank noNets lowest highest many first last
+unfolding stateBy blank noNets lowest highest many first last
 blank-holds top bottom t a f l h n b ea fr el eh en =
     rw (ea, el, eh, en)
     (record {
@@ -63,7 +63,7 @@ none-marked last n s w fam en hs hw v =
 -- no net has a mate, and none is double
 none-mated : (top bottom : List ℕ) (t : ℕ) (fam : Family) (n m q : List ℕ) → n ≡ noNets → m ≡ noNets → ((k : ℕ) → member q k ≡ false)
     → Mated fam (state t top bottom 0 .mates) n m q
-unfolding state noMates noNets loneBy
+unfolding stateBy noMates noNets loneBy
 none-mated top bottom t fam n m q en em hq = record {
   is = λ z. em;
   small = λ z j. omega (arith, ap (λ (l : List ℕ). getD l j 0) em ∙ zeros 257 j);

@@ -22,15 +22,17 @@ use Rattle.sweep.specs.declared.Free.{Free}
 use Rattle.sweep.specs.declared.Move.{Move}
 use Rattle.sweep.specs.Tracks.{many}
 use Rattle.sweep.specs.Pairs.{latestTo}
-use Rattle.sweep.specs.ThreePin.{chooseThree}
+use Rattle.sweep.specs.ThreePin.{still, chooseThree}
+use Rattle.sweep.specs.Working.{noPins, joinAlone}
 use Rattle.sweep.specs.Drawing.{moveOf, move, freeOf, pinAt, extendedNet, jointOf, endOf, loneDouble, latestDouble, otherDouble, doubleOf}
-use Rattle.sweep.proofs.Rules.Seconds.{leaving, three-same}
+use Rattle.sweep.proofs.Rules.Seconds.{leaving, alone-same, three-same}
+use Rattle.sweep.proofs.Rules.Empty.{extended-alone}
 use Rattle.sweep.proofs.Rules.Doubles.{doubles-idle}
 use Rattle.pairs.specs.Working.{loneBy, LoneAt, LeastAbove, butFor, doubleBy}
 use Rattle.pairs.proofs.Laws.{skips}
 use Rattle.router.specs.Working.{tracksIn, Holds, Spans, Ready, Marked, IsLowestJoint, ChosenThree, pinBy}
 use Rattle.router.proofs.Laws.Lowest.{OnTrack, least-net, many-on}
-use Rattle.router.proofs.Laws.Sweeps.{on-small, no-strands-over, nonzero, joint-is, extended-small, extended-is, top-is, bottom-is}
+use Rattle.router.proofs.Laws.Sweeps.{on-small, no-strands-over, nonzero, joint-is, extended-small, extended-is, top-is, bottom-is, net-is, column-move}
 
 -- THE NET THAT ENDS LAST depends on the tests and the last columns alone
 module _ (e e′ : ℕ → ℕ) (p p′ : ℕ → Bool) where
@@ -145,20 +147,14 @@ module _ (top bottom first last : List ℕ) {t : ℕ} {d f low high number s w :
     (h : Holds t (tracksIn t d) d f low high number) (so : Marked last number c s w fam) (mates l : List ℕ) (told : (v : ℕ) → LoneAt number mates l v)
     (ea : A ≡ pinBy (getD first (getD top c 0) 0) (getD last (getD top c 0) 0) (getD low (getD top c 0) 0) (getD high (getD top c 0) 0) (getD number (getD top c 0) 0) c (getD top c 0))
     (eb : B ≡ pinBy (getD first (getD bottom c 0) 0) (getD last (getD bottom c 0) 0) (getD low (getD bottom c 0) 0) (getD high (getD bottom c 0) 0) (getD number (getD bottom c 0) 0) c (getD bottom c 0)) where
-  -- the net of a pin
-  net-is : (v : ℕ) → pinAt top bottom c (tracksIn t d) v .net ≡ v
-  unfolding pinAt
-  net-is zero = refl
-  net-is (suc v) = rw (ne-eqb (suc v) 0 (λ e. omega arith)) refl
-
   -- its last column
   end-is : (v : ℕ) (C : Pin) → v ≤ 256 → C ≡ pinAt top bottom c (tracksIn t d) v → {p : Family} → Ready top bottom first last t p → getD last (C .net) 0 ≡ endOf top bottom v
-  end-is v C b e r = ap (λ (z : Pin). getD last (z .net) 0) e ∙ ap (λ (z : ℕ). getD last z 0) (net-is v) ∙ r .spans .ends v b
+  end-is v C b e r = ap (λ (z : Pin). getD last (z .net) 0) e ∙ ap (λ (z : ℕ). getD last z 0) (net-is top bottom c (tracksIn t d) v) ∙ r .spans .ends v b
 
-  -- the move is that of the rules
+  -- the move is that of the sweep
   pub column-three-is : fam ≡ ThreePin → Ready top bottom first last t fam → ChosenThree t A B last low high s l (tracksIn t d) c x
       → x ≡ move t top bottom c (tracksIn t d) mates
-  unfolding move moveOf
+  unfolding moveOf
   column-three-is m r ex =
       let sp = r .spans in
       let tr : List ℕ = tracksIn t d in
@@ -168,7 +164,7 @@ module _ (top bottom first last : List ℕ) {t : ℕ} {d f low high number s w :
       let p : A ≡ pinAt top bottom c tr (getD top c 0) = top-is top bottom first last c A B h so ea eb r in
       let q : B ≡ pinAt top bottom c tr (getD bottom c 0) = bottom-is top bottom first last c A B h so ea eb r in
       let (la, lb) = latest-is h mates l told top bottom first last sp in
-      let e : x ≡ chooseThree t A B (getD last (A .net) 0) (getD last (B .net) 0) (freeOf tr) (leaving J) D M =
+      let e : x ≡ pick (noPins A B) (still (joinAlone (leaving J))) (chooseThree t A B (getD last (A .net) 0) (getD last (B .net) 0) (freeOf tr) (leaving J) D M) =
       ex (leaving J) D M
       (λ v nx.
       joint-is top bottom first last sp h c v (extended-small top bottom first last sp h c so v nx)
@@ -179,13 +175,13 @@ module _ (top bottom first last : List ℕ) {t : ℕ} {d f low high number s w :
       three-same A B (freeOf tr) J t (getD last (A .net) 0) (getD last (B .net) 0) D M in
       let y : getD last (A .net) 0 ≡ endOf top bottom (getD top c 0) = end-is (getD top c 0) A (r .tops c) p r in
       let z : getD last (B .net) 0 ≡ endOf top bottom (getD bottom c 0) = end-is (getD bottom c 0) B (r .bottoms c) q r in
-      rw (r .is ∙ m) (e ∙ k ∙ ap₂ (λ (i j : ℕ). chooseThree t A B i j (freeOf tr) J D M) y z ∙ ap₂ (λ (i j : Pin). chooseThree t i j (endOf top bottom (getD top c 0)) (endOf top bottom (getD bottom c 0)) (freeOf tr) J D M) p q)
+      column-move top bottom first last c A B h so ea eb r mates x (joinAlone (leaving J)) _ (λ i. alone-same J ∙ extended-alone top bottom c tr) (rw m (k ∙ ap₂ (λ (i j : ℕ). chooseThree t A B i j (freeOf tr) J D M) y z ∙ ap₂ (λ (i j : Pin). chooseThree t i j (endOf top bottom (getD top c 0)) (endOf top bottom (getD bottom c 0)) (freeOf tr) J D M) p q)) e
 
 -- WHAT THE FUNCTION OF A COLUMN FOUND
 module _ (t : ℕ) (A B : Pin) (last low high s l tr : List ℕ) (c : ℕ) (x : Move) (f : Free) (n : Joint) (ef : f ≡ freeOf tr) (en : IsLowestJoint last low high s tr c n) where
   -- with the unpaired double nets
   asked-three : (v w : ℕ) (D M : Double) → v ≡ latestTo (λ u. getD last u 0) (member l) 511 → LeastAbove (butFor l v) 0 w → D ≡ doubleBy last low high v → M ≡ doubleBy last low high w
-      → x ≡ chooseThree t A B (getD last (A .net) 0) (getD last (B .net) 0) f n D M → ChosenThree t A B last low high s l tr c x
+      → x ≡ pick (noPins A B) (still (joinAlone n)) (chooseThree t A B (getD last (A .net) 0) (getD last (B .net) 0) f n D M) → ChosenThree t A B last low high s l tr c x
   asked-three v w D M ev lw eD eM ex N D′ M′ lN lD lM =
       let i : n ≡ N = en N lN in
       let j : D ≡ D′ = eD ∙ ap (doubleBy last low high) ev ∙ lD in
@@ -194,10 +190,10 @@ module _ (t : ℕ) (A B : Pin) (last low high s l tr : List ℕ) (c : ℕ) (x : 
 
   -- or without, where the column does not ask for them
   idle-three : (D M : Double) → (eqb (n .net) 0 && (eqb (A .kind) 1 || eqb (B .kind) 1)) ≡ false
-      → x ≡ chooseThree t A B (getD last (A .net) 0) (getD last (B .net) 0) f n D M → ChosenThree t A B last low high s l tr c x
+      → x ≡ pick (noPins A B) (still (joinAlone n)) (chooseThree t A B (getD last (A .net) 0) (getD last (B .net) 0) f n D M) → ChosenThree t A B last low high s l tr c x
   idle-three D M z ex N D′ M′ lN lD lM =
       let i : n ≡ N = en N lN in
-      ex ∙ doubles-idle A B (getD last (A .net) 0) (getD last (B .net) 0) f n D M D′ M′ t (inl idle) ∙ rw (ef, i) refl
+      ex ∙ ap (pick (noPins A B) (still (joinAlone n))) (doubles-idle A B (getD last (A .net) 0) (getD last (B .net) 0) f n D M D′ M′ t (inl idle)) ∙ rw (ef, i) refl
     where
       idle : ((A .kind ≢ 1) × (B .kind ≢ 1)) ⊎ (n .net ≢ 0)
       idle = go (eqb (n .net) 0) refl z
@@ -209,6 +205,6 @@ module _ (t : ℕ) (A B : Pin) (last low high s l tr : List ℕ) (c : ℕ) (x : 
   -- one or the other
   pub found-three : (b : Bool) (v w : ℕ) (D M : Double) → b ≡ (eqb (n .net) 0 && (eqb (A .kind) 1 || eqb (B .kind) 1))
       → (b ≡ true → v ≡ latestTo (λ u. getD last u 0) (member l) 511) → (b ≡ true → LeastAbove (butFor l v) 0 w) → D ≡ doubleBy last low high v → M ≡ doubleBy last low high w
-      → x ≡ chooseThree t A B (getD last (A .net) 0) (getD last (B .net) 0) f n D M → ChosenThree t A B last low high s l tr c x
+      → x ≡ pick (noPins A B) (still (joinAlone n)) (chooseThree t A B (getD last (A .net) 0) (getD last (B .net) 0) f n D M) → ChosenThree t A B last low high s l tr c x
   found-three true v w D M eb ev lw eD eM ex = asked-three v w D M (ev refl) (lw refl) eD eM ex
   found-three false v w D M eb ev lw eD eM ex = idle-three D M (sym eb) ex

@@ -1,33 +1,20 @@
 -- The lowest net of a set is the lowest net on the tracks that passes the set's test.
-use Prim.Native.Nat.{ℕ, zero, suc, _≤_, _<_}
+use Prim.Native.Nat.{ℕ, _≤_, _<_}
 use mathlib.Core.Path.{_≡_, refl, sym, ap, subst, _∙_}
 use mathlib.Core.Bool.{Bool, true}
-use mathlib.Core.List.{List, [], _∷_}
+use mathlib.Core.List.{List}
 use mathlib.Core.Logic.{_⊎_, inl, inr, ⊎-elim}
 use native.Mathlib.Omega.{arith}
 use native.Mathlib.Decide.{ℕ-discrete, decLt}
 use lib.ListN.{length, getD}
-use Rattle.grid.specs.Channel.{pick}
 use Rattle.sets.specs.Member.{member, LowestFrom}
-use Rattle.sweep.specs.Tracks.{lesser, lowestNet, many}
+use Rattle.sweep.specs.Tracks.{lowestNet, many}
 use Rattle.pairs.specs.Working.{LeastAbove}
 use Rattle.router.specs.Working.{Next}
 use Rattle.grid.proofs.Counting.{holds-times, times-at}
 use Rattle.grid.proofs.Tests.{not-both, below-or}
-use Rattle.sweep.proofs.Tracks.Strands.{many-times, a-net}
-
--- the lesser of two is at most each that is a net
-lesser-left : (x y : ℕ) → 0 < x → (0 < lesser x y) × (lesser x y ≤ x)
-unfolding lesser
-lesser-left zero y h = absurd (omega arith)
-lesser-left (suc x) zero h = omega arith
-lesser-left (suc x) (suc y) h = omega arith
-
-lesser-right : (x y : ℕ) → 0 < y → (0 < lesser x y) × (lesser x y ≤ y)
-unfolding lesser
-lesser-right zero y h = omega arith
-lesser-right (suc x) zero h = absurd (omega arith)
-lesser-right (suc x) (suc y) h = omega arith
+use Rattle.sweep.proofs.Tracks.Strands.{many-times}
+use Rattle.sweep.proofs.Tracks.Nets.{a-net, net-least}
 
 -- v stands on a track
 abbrev pub OnTrack : ℕ → List ℕ → Type 0
@@ -47,16 +34,6 @@ net-found p l n =
     let v : ℕ = lowestNet p l in
     let w = a-net p l v (λ e. omega arith) refl in
     (w .0, times-at v l (w .1))
-
--- and is at most each net on a track that passes it
-net-least : (p : ℕ → Bool) (l : List ℕ) (j : ℕ) → j < length l → p (getD l j 0) ≡ true → 0 < getD l j 0 → (0 < lowestNet p l) × (lowestNet p l ≤ getD l j 0)
-unfolding lowestNet
-net-least p [] j h e n = absurd (omega arith)
-net-least p (x ∷ xs) zero h e n = rw e (lesser-left x (lowestNet p xs) n)
-net-least p (x ∷ xs) (suc j) h e n =
-    let ih = net-least p xs j (omega arith) e n in
-    let w = lesser-right (pick (p x) x 0) (lowestNet p xs) (ih .0) in
-    (w .0, omega arith)
 
 -- numbers gathered from the tracks by a test p: each that is told passes it and stands on a track, and each net on a track that passes it is told
 pub record Gathers (p : ℕ → Bool) (tr : List ℕ) (told : ℕ → Bool) : Type 0 where

@@ -17,7 +17,7 @@ use Rattle.sweep.specs.declared.Action.{Action}
 use Rattle.sweep.specs.declared.Move.{Move}
 use Rattle.sweep.specs.Tracks.{after, verticals}
 use Rattle.sweep.specs.Drawing
-use Rattle.sweep.specs.Drawing.{moveOf, move, matesAfter, state, gap, moveAt, drawn}
+use Rattle.sweep.specs.Drawing.{moveOf, move, matesAfter, stateBy, state, gap, moveAt, drawnBy, drawn}
 use Rattle.router.specs.Working.{tracksIn, Holds, RowsAndLasts, Ready, Fitting, FitsAt, Keeps, Mated, forms, AtGap, DrawnTo, withColumn}
 use Rattle.sweep.proofs.Columns.Entries.{verticals-length}
 use Rattle.router.proofs.Laws.Arrays.{own, length-tracks}
@@ -47,21 +47,25 @@ rows-and-lasts r = record { rows = r .rows; most = r .most; tops = r .tops; bott
 pub mated-own : {fam : Family} {m number mates l : List ℕ} → Mated fam m number mates l → Mated fam mates number mates l
 mated-own k = record { is = λ e. refl; small = k .small; lone = k .lone }
 
--- a move depends on the mates only where pairs are formed
-move-mates : (fam : Family) (t : ℕ) (top bottom : List ℕ) (c : ℕ) (tr m mates : List ℕ) → (forms fam ≡ true → mates ≡ m) → moveOf t top bottom fam c tr mates ≡ moveOf t top bottom fam c tr m
+-- what the rules choose depends on the mates only where pairs are formed
+rules-mates : (fam : Family) (t : ℕ) (top bottom : List ℕ) (c : ℕ) (tr m mates : List ℕ) → (forms fam ≡ true → mates ≡ m) → moveOf t top bottom fam c tr mates ≡ moveOf t top bottom fam c tr m
 unfolding moveOf
-move-mates TwoPin t top bottom c tr m mates e = refl
-move-mates ThreePin t top bottom c tr m mates e = ap (moveOf t top bottom ThreePin c tr) (e refl)
-move-mates ManyPin t top bottom c tr m mates e = refl
+rules-mates TwoPin t top bottom c tr m mates e = refl
+rules-mates ThreePin t top bottom c tr m mates e = ap (moveOf t top bottom ThreePin c tr) (e refl)
+rules-mates ManyPin t top bottom c tr m mates e = refl
+
+-- and so does the move
+move-mates : (t : ℕ) (top bottom : List ℕ) (c : ℕ) (tr m mates : List ℕ) → (forms (family top bottom) ≡ true → mates ≡ m) → move t top bottom c tr mates ≡ move t top bottom c tr m
+unfolding move
+move-mates t top bottom c tr m mates e = rw (rules-mates (family top bottom) t top bottom c tr m mates e)
 
 module _ (top bottom : List ℕ) (c : ℕ) (x : Move) {last : List ℕ} {t : ℕ} {fam : Family} {a f l h n s w m q : List ℕ} (g : AtGap top bottom last t fam c a f l h n s w m q)
     (r : family top bottom ≡ fam) (e : x ≡ move t top bottom c (tracksIn t a) m) where
   -- the column's move, by the arrays, is that of the gap which they hold
   pub move-at : x ≡ moveAt t top bottom c
-  unfolding moveAt move
+  unfolding moveAt
   move-at =
-      e ∙ ap (λ (z : Family). moveOf t top bottom z c (tracksIn t a) m) r ∙ move-mates fam t top bottom c (tracksIn t a) (state t top bottom c .mates) m (g .mated .is)
-      ∙ ap (λ (z : Family). moveOf t top bottom z c (tracksIn t a) (state t top bottom c .mates)) (sym r)
+      e ∙ move-mates t top bottom c (tracksIn t a) (state t top bottom c .mates) m (λ i. g .mated .is (ap forms (sym r) ∙ i))
       ∙ ap (λ (z : List ℕ). move t top bottom c z (state t top bottom c .mates)) (g .keeps .holds .is)
 
   -- it fits the arrays' tracks
@@ -70,11 +74,11 @@ module _ (top bottom : List ℕ) (c : ℕ) (x : Move) {last : List ℕ} {t : ℕ
 
   -- the tracks and the mates in the next gap
   tracks-next : after (x .action) (tracksIn t a) ≡ gap t top bottom (suc c)
-  unfolding state moveAt
+  unfolding stateBy moveAt
   tracks-next = ap (λ (z : Move). after (z .action) (tracksIn t a)) move-at ∙ ap (after (moveAt t top bottom c .action)) (g .keeps .holds .is)
 
   mates-next : m ≡ state t top bottom c .mates → matesAfter top bottom c x m ≡ state t top bottom (suc c) .mates
-  unfolding state moveAt
+  unfolding stateBy moveAt
   mates-next i = ap (λ (z : Move). matesAfter top bottom c z m) move-at ∙ ap (matesAfter top bottom c (moveAt t top bottom c)) i
 
   -- the arrays and sets hold the next gap
@@ -91,7 +95,7 @@ module _ (top bottom : List ℕ) (c : ℕ) (x : Move) {last : List ℕ} {t : ℕ
 
 -- one column more is drawn
 drawn-suc : (t : ℕ) (top bottom : List ℕ) (i : ℕ) → drawn t top bottom (i + 1) ≡ drawn t top bottom i ++ (verticals t (moveAt t top bottom i .action) ++ gap t top bottom (i + 1))
-unfolding drawn
+unfolding drawnBy moveAt
 drawn-suc t top bottom i = rw add-one
 
 -- the entries of column i + 1, as the writer leaves them
@@ -138,7 +142,7 @@ column-dry false x y z = refl
 
 -- nothing is drawn yet
 pub none-drawn : (b : Bool) (top bottom : List ℕ) (t : ℕ) (l : List ℕ) → DrawnTo b top bottom t 0 l l
-unfolding drawn
+unfolding drawnBy
 none-drawn b top bottom t l = record { shows = go b; sized = sym (zero-mul (2 * t + 1)) }
   where
     go : (b : Bool) → l ≡ pick b (drawn t top bottom 0 ++ drop (0 * (2 * t + 1)) l) l

@@ -11,12 +11,11 @@ use borrow.Author.Tests.{eq-eqb, ne-eqb, lt-ltb, ltb-true}
 use lib.ListN.{getD, List·getD-eq-default}
 use Rattle.grid.specs.declared.Family.{Family}
 use Rattle.grid.specs.declared.Family.the-variants.{TwoPin, ManyPin}
-use Rattle.grid.specs.Channel.{pick}
-use Rattle.grid.proofs.Tests.{and-true, below-or}
+use Rattle.grid.specs.Channel.{pick, family}
+use Rattle.grid.proofs.Tests.{and-true, below-or, not-both}
 use Rattle.sets.specs.Member.{member}
 use Rattle.sweep.specs.declared.Action.{Action}
 use Rattle.sweep.specs.declared.Pin.{Pin}
-use Rattle.sweep.specs.declared.Free.{Free}
 use Rattle.sweep.specs.declared.Joint.{Joint}
 use Rattle.sweep.specs.declared.Move.{Move}
 use Rattle.sweep.specs.Tracks.{second, many, after}
@@ -24,10 +23,12 @@ use Rattle.sweep.specs.TwoPin.{chooseTwo}
 use Rattle.sweep.specs.ManyPin.{chooseMany}
 use Rattle.sweep.specs.Drawing
 use Rattle.sweep.specs.ThreePin.{still}
-use Rattle.sweep.specs.Drawing.{moveOf, move, kindBy, freeOf, pinAt, extendedAt, wideAt, extendedNet, netToJoin, jointOf}
-use Rattle.router.specs.Working.{tracksIn, Holds, Spans, Ready, Marked, narrow, Next, ToJoin, LowestJoint, pinBy, extendedBy, wideBy, jointBy}
+use Rattle.sweep.specs.Working.{noPins, joinAlone, Kinded}
+use Rattle.sweep.specs.Drawing.{moveOf, move, kindBy, freeOf, pinAt, extendedAt, wideAt, extendedNet, netToJoin, jointOf, emptyAt, emptyColumn}
+use Rattle.router.specs.Working.{tracksIn, Holds, Spans, Ready, Marked, narrow, Next, ToJoin, ChosenTwo, ChosenMany, pinBy, extendedBy, wideBy, jointBy}
 use Rattle.router.proofs.Laws.Arrays.{length-tracks, tracks-at}
-use Rattle.sweep.proofs.Rules.Seconds.{leaving, two-same, many-same}
+use Rattle.sweep.proofs.Rules.Seconds.{leaving, alone-same, two-same, many-same}
+use Rattle.sweep.proofs.Rules.Empty.{extended-alone, to-join-alone}
 use Rattle.router.proofs.Laws.Lowest.{OnTrack, Gathers, lowest-net, many-on, on-many}
 
 -- a kind is a number up to 3
@@ -48,6 +49,21 @@ pin-kind f l a b m c v A e = subst (λ (x : Pin). x .kind ≤ 3) (sym e) (go (eq
         (record { net = v; kind = kindBy (not (eqb f 0) && leb f c) (ltb (c + 1) l); low = a; high = b; many = m }) .kind ≤ 3
     go true = none
     go false = kind-bound (not (eqb f 0) && leb f c) (ltb (c + 1) l)
+
+-- and 0 just where it has no net
+pub pin-kinded : (f l a b m c v : ℕ) (A : Pin) → A ≡ pinBy f l a b m c v → Kinded A
+unfolding pinBy
+pin-kinded f l a b m c v A e = subst Kinded (sym e) (go (eqb v 0) refl)
+  where
+    some : (p q : Bool) → kindBy p q ≡ 0 → v ≡ 0
+    some false q z = absurd (omega arith)
+    some true true z = absurd (omega arith)
+    some true false z = absurd (omega arith)
+
+    go : (p : Bool) → eqb v 0 ≡ p → Kinded (pick {A = Pin} p (record { net = 0; kind = 0; low = 0; high = 0; many = 0 })
+        (record { net = v; kind = kindBy (not (eqb f 0) && leb f c) (ltb (c + 1) l); low = a; high = b; many = m }))
+    go true z = (λ i. refl, λ i. refl)
+    go false z = (some (not (eqb f 0) && leb f c) (ltb (c + 1) l), λ i. absurd (not-both (eq-eqb v 0 i) z))
 
 -- a net on the tracks is numbered up to 256
 pub on-small : {t : ℕ} {tr d f l h n : List ℕ} → Holds t tr d f l h n → (v : ℕ) → OnTrack v (tracksIn t d) → v ≤ 256
@@ -166,6 +182,17 @@ module _ (top bottom first last : List ℕ) (sp : Spans top bottom first last) {
     to-join-small m v (inl n) = extended-small v (n .0)
     to-join-small m v (inr n) = next-small w (wideAt top bottom c tr) v (wide-gathers m) (n .1)
 
+-- the net of a pin
+pub net-is : (top bottom : List ℕ) (c : ℕ) (tr : List ℕ) (v : ℕ) → pinAt top bottom c tr v .net ≡ v
+unfolding pinAt
+net-is top bottom c tr zero = refl
+net-is top bottom c tr (suc v) = rw (ne-eqb (suc v) 0 (λ e. omega arith)) refl
+
+-- a choice of two actions, as moves without a pair
+pick-still : (q : Bool) (x y : Action) → still (pick q x y) ≡ pick q (still x) (still y)
+pick-still true x y = refl
+pick-still false x y = refl
+
 -- a column, from what its functions found
 module _ (top bottom first last : List ℕ) {t : ℕ} {d f low high number s w : List ℕ} {fam : Family} (c : ℕ) (A B : Pin)
     (h : Holds t (tracksIn t d) d f low high number) (so : Marked last number c s w fam)
@@ -179,32 +206,52 @@ module _ (top bottom first last : List ℕ) {t : ℕ} {d f low high number s w :
   pub bottom-is : {p : Family} → Ready top bottom first last t p → B ≡ pinAt top bottom c (tracksIn t d) (getD bottom c 0)
   bottom-is r = eb ∙ pin-is top bottom first last (r .spans) h c (getD bottom c 0) (r .bottoms c)
 
+  -- what it does without pins, and else by the rules of its family, is its move
+  pub column-move : Ready top bottom first last t fam → (mates : List ℕ) (y : Move) (e : Action) (x : Move)
+      → (emptyAt top bottom c ≡ true → e ≡ emptyColumn top bottom c (tracksIn t d)) → x ≡ moveOf t top bottom fam c (tracksIn t d) mates
+      → y ≡ pick (noPins A B) (still e) x → y ≡ move t top bottom c (tracksIn t d) mates
+  unfolding move emptyAt
+  column-move r mates y e x i j k =
+      let a : A .net ≡ getD top c 0 = ap (λ (z : Pin). z .net) (top-is r) ∙ net-is top bottom c (tracksIn t d) (getD top c 0) in
+      let b : B .net ≡ getD bottom c 0 = ap (λ (z : Pin). z .net) (bottom-is r) ∙ net-is top bottom c (tracksIn t d) (getD bottom c 0) in
+      let l : y ≡ pick (eqb (getD top c 0) 0 && eqb (getD bottom c 0) 0) (still e) x = rw (a, b) at k in
+      l ∙ go (eqb (getD top c 0) 0 && eqb (getD bottom c 0) 0) refl
+    where
+      go : (q : Bool) → (eqb (getD top c 0) 0 && eqb (getD bottom c 0) 0) ≡ q → pick q (still e) x ≡ pick q (still (emptyColumn top bottom c (tracksIn t d))) (moveOf t top bottom (family top bottom) c (tracksIn t d) mates)
+      go true z = ap still (i z)
+      go false z = rw (r .is) j
+
   -- of a two-pin channel
-  pub column-is : (x : Action) (y : Move) (mates : List ℕ) → fam ≡ TwoPin → Ready top bottom first last t fam
-      → ((N : Joint) → LowestJoint last low high s (tracksIn t d) c N → x ≡ chooseTwo t A B (freeOf (tracksIn t d)) N)
+  pub column-is : (x : Action) (y : Move) (mates : List ℕ) → fam ≡ TwoPin → Ready top bottom first last t fam → ChosenTwo t A B last low high s (tracksIn t d) c x
       → y ≡ still x → y ≡ move t top bottom c (tracksIn t d) mates
-  unfolding move moveOf
+  unfolding moveOf
   column-is x y mates m r ex ey =
-      let J : ℕ → Joint = jointOf top bottom c (tracksIn t d) in
+      let tr : List ℕ = tracksIn t d in
+      let J : ℕ → Joint = jointOf top bottom c tr in
+      let N : Joint = J (extendedNet top bottom c tr) in
       let p = top-is r in
       let q = bottom-is r in
-      let e : x ≡ chooseTwo t A B (freeOf (tracksIn t d)) (leaving (J (extendedNet top bottom c (tracksIn t d)))) =
+      let e : x ≡ pick (noPins A B) (joinAlone (leaving N)) (chooseTwo t A B (freeOf tr) (leaving N)) =
       ex _ (λ v nx.
       joint-is top bottom first last (r .spans) h c v (extended-small top bottom first last (r .spans) h c so v nx)
       ∙ ap (λ (u : ℕ). leaving (J u)) (extended-is top bottom first last (r .spans) h c so v nx)) in
-      rw (r .is ∙ m) (cc (two-same A B (freeOf (tracksIn t d)) (J (extendedNet top bottom c (tracksIn t d))) t))
+      column-move r mates y (joinAlone (leaving N)) (still (chooseTwo t A B (freeOf tr) (leaving N))) (λ i. alone-same N ∙ extended-alone top bottom c tr)
+      (rw m (cc (two-same A B (freeOf tr) N t))) (ey ∙ ap still e ∙ pick-still (noPins A B) (joinAlone (leaving N)) (chooseTwo t A B (freeOf tr) (leaving N)))
 
   -- and of a many-pin channel
-  pub column-many-is : fam ≡ ManyPin → Ready top bottom first last t fam → (free : Free) (v : ℕ) (N : Joint) (b : Bool) (x : Action) (y : Move) (mates : List ℕ) → free ≡ freeOf (tracksIn t d) → ToJoin s w v
-      → N ≡ jointBy (getD last v 0) (getD low v 0) (second v (tracksIn t d)) (getD high v 0) c v → b ≡ ltb (c + 1) (getD last (getD top c 0) 0)
-      → x ≡ chooseMany t A B free N b → y ≡ still x → y ≡ move t top bottom c (tracksIn t d) mates
-  unfolding move moveOf
-  column-many-is m r free v N b x y mates ef nx en el ex ey =
-      let J : ℕ → Joint = jointOf top bottom c (tracksIn t d) in
+  pub column-many-is : (b : Bool) (x : Action) (y : Move) (mates : List ℕ) → fam ≡ ManyPin → Ready top bottom first last t fam → b ≡ ltb (c + 1) (getD last (getD top c 0) 0)
+      → ChosenMany t A B b last low high s w (tracksIn t d) c x → y ≡ still x → y ≡ move t top bottom c (tracksIn t d) mates
+  unfolding moveOf
+  column-many-is b x y mates m r el ex ey =
+      let tr : List ℕ = tracksIn t d in
+      let J : ℕ → Joint = jointOf top bottom c tr in
+      let N : Joint = J (netToJoin top bottom c tr) in
       let p = top-is r in
       let q = bottom-is r in
-      let n : N ≡ leaving (J (netToJoin top bottom c (tracksIn t d))) =
-      en ∙ joint-is top bottom first last (r .spans) h c v (to-join-small top bottom first last (r .spans) h c so (ap narrow m) v nx)
-      ∙ ap (λ (u : ℕ). leaving (J u)) (to-join-is top bottom first last (r .spans) h c so (ap narrow m) v nx) in
+      let e : x ≡ pick (noPins A B) (joinAlone (leaving N)) (chooseMany t A B (freeOf tr) (leaving N) b) =
+      ex _ (λ v nx.
+      joint-is top bottom first last (r .spans) h c v (to-join-small top bottom first last (r .spans) h c so (ap narrow m) v nx)
+      ∙ ap (λ (u : ℕ). leaving (J u)) (to-join-is top bottom first last (r .spans) h c so (ap narrow m) v nx)) in
       let l : b ≡ Drawing.later top bottom (suc c) (getD top c 0) = el ∙ ap (λ (k : ℕ). ltb k (getD last (getD top c 0) 0)) (add-one c) ∙ sym (r .spans .after (suc c) (getD top c 0) (r .tops c)) in
-      rw (r .is ∙ m) (cc (many-same A B free (J (netToJoin top bottom c (tracksIn t d))) t b))
+      column-move r mates y (joinAlone (leaving N)) (still (chooseMany t A B (freeOf tr) (leaving N) b)) (λ i. alone-same N ∙ to-join-alone top bottom c tr i)
+      (rw m (cc (many-same A B (freeOf tr) N t b))) (ey ∙ ap still e ∙ pick-still (noPins A B) (joinAlone (leaving N)) (chooseMany t A B (freeOf tr) (leaving N) b))

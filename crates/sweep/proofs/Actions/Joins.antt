@@ -1,4 +1,4 @@
--- The actions that join the strands of a net: rule 2 of each sweep, and the columns added after column n.
+-- The actions that join the strands of a net: rule 2 of each sweep, the columns without pins, and those added after column n.
 use Prim.Native.Nat.{ℕ, suc, _≤_, _<_, zero-le}
 use mathlib.Core.Path.{_≡_, refl, sym, ap, _∙_}
 use mathlib.Core.Logic.{inl, inr, _≢_, ⊎-elim}
@@ -13,15 +13,16 @@ use Rattle.grid.proofs.Tests.{Below, bit-most}
 use Rattle.grid.proofs.Counting.{at-below}
 use Rattle.grid.proofs.Drawings.Segments.{Ordered, segment-run, segment-none, alone, joined, bottomRun, middleRun, topRun}
 use Rattle.sweep.specs.declared.Joint.{Joint}
-use Rattle.sweep.specs.Tracks.{lowest, highest, after}
+use Rattle.sweep.specs.Tracks.{lowest, highest, clear, give, after}
 use Rattle.sweep.specs.Rules.{taken, joinNet}
 use Rattle.sweep.specs.Drawing.{joining}
 use Rattle.sweep.proofs.Tracks.Strands.{Strand, strand-is, strand-times, lowest-is, highest-is, lowest<highest, between}
 use Rattle.sweep.proofs.Tracks.After.{Gives, one, two, three, gives, Distinct, one-track, one-leaves, two-leaves, three-leaves, gift, gift-le}
 use Rattle.sweep.proofs.Tracks.After.{gift-other, gifts}
+use Rattle.sweep.proofs.Tracks.Changed.{clear-idle}
 use Rattle.sweep.proofs.Columns.Sound.{Sound, Grant, Lands, outward, inward, grant-idle, grant-none, grant-old, grant-unless, strandNet}
 use Rattle.sweep.specs.Working.{nobody, topNet, bottomNet, endedNet}
-use Rattle.sweep.proofs.Gaps.Pins.{true-of, false-of}
+use Rattle.sweep.proofs.Gaps.Pins.{Off, true-of, false-of}
 use Rattle.sweep.proofs.Gaps.Joints.{Bound}
 use Rattle.sweep.proofs.Actions.Good.{Good, Begun, taken-some, pick-diff, pick-track, gift-own, back-within, on-bottom, on-top, none-given}
 
@@ -140,7 +141,7 @@ module _ (top bottom : List ℕ) (c t : ℕ) (tr : List ℕ) (size : length tr �
     },
   )
 
--- AFTER COLUMN n: net v, of two strands or more, is joined, and nothing else is done
+-- NOTHING BUT A JOIN: net v, of two strands or more, is joined, after column n or in a column without pins
 pub joining-sound : (t : ℕ) (tr : List ℕ) → length tr ≡ t → (v : ℕ) → v ≢ 0 → 1 < times v tr → Sound t 0 0 tr (joining tr v)
 unfolding joining
 joining-sound t tr size v n p =
@@ -173,3 +174,24 @@ joining-sound t tr size v n p =
           (λ j q. gives (λ e f. absurd (omega arith)) (λ e f. absurd (omega arith)) (λ e f. absurd (omega arith))));
       closedFares = λ n. absurd (n refl);
     }
+
+-- its strands end, and nothing else changes
+pub after-joining : (tr : List ℕ) (v : ℕ) → after (joining tr v) tr ≡ clear v tr
+unfolding after joining give
+after-joining tr v = clear-idle 0 (clear v tr) (inl refl)
+
+-- so it is good in a column without pins, if the net has none to come
+pub joining-good : (top bottom : List ℕ) (c t : ℕ) (tr : List ℕ) → length tr ≡ t → (v : ℕ) → v ≢ 0 → 1 < times v tr → Off top bottom c v
+    → Good top bottom c t tr 0 0 (joining tr v)
+unfolding joining
+joining-good top bottom c t tr size v n p off = (
+  joining-sound t tr size v n p,
+  record {
+    endedOn = λ m on. absurd (omega arith);
+    endedOff = λ m z. refl;
+    endedFew = λ m. zero-le;
+    closedOff = λ m. absurd (m refl);
+    othersFew = λ u m o k. zero-le;
+    beside = λ u m here o k z. absurd (⊎-elim (λ i. m (sym i)) (λ i. m (sym i)) here);
+  },
+)

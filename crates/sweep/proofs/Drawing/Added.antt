@@ -1,7 +1,7 @@
 -- The columns added after column n: the tracks left net by net, that each added column fits, and how many there are.
 use Prim.Native.Nat.{ℕ, zero, suc, _+_, _*_, _≤_, _<_}
 use mathlib.Core.Path.{_≡_, refl, sym, ap, _∙_, subst, subst₂}
-use mathlib.Core.Logic.{_⊎_, inl, inr, _≢_, ⊎-elim}
+use mathlib.Core.Logic.{_⊎_, inr, _≢_, ⊎-elim}
 use mathlib.Core.Bool.{Bool, true, false}
 use mathlib.Core.List.{List, [], _++_, append-assoc, append-nil}
 use native.Mathlib.Omega.{arith}
@@ -11,19 +11,14 @@ use Rattle.grid.specs.Channel.{pick, bit, times, sum, count}
 use Rattle.grid.proofs.Tests.{ltb-true, ltb-false}
 use Rattle.grid.proofs.Counting.{sum-times}
 use Rattle.grid.proofs.Drawings.Columns.{Column, Drawn, Lives, more}
-use Rattle.sweep.specs.Tracks.{clear, give, after, verticals}
+use Rattle.sweep.specs.Tracks.{after, verticals}
 use Rattle.sweep.specs.Drawing.{remains, rest, joining, added}
 use Rattle.sweep.proofs.Tracks.Strands.{many-times}
 use Rattle.sweep.proofs.Tracks.After.{length-clear, clear-back, clear-keep, times-more}
 use Rattle.sweep.proofs.Tracks.Changed.{clear-idle}
 use Rattle.sweep.proofs.Columns.Entries.{verticals-length}
 use Rattle.sweep.proofs.Columns.Sound.{on, column}
-use Rattle.sweep.proofs.Actions.Joins.{joining-sound}
-
--- a joined net's strands end, and nothing else changes
-after-joining : (tr : List ℕ) (v : ℕ) → after (joining tr v) tr ≡ clear v tr
-unfolding after joining give
-after-joining tr v = clear-idle 0 (clear v tr) (inl refl)
+use Rattle.sweep.proofs.Actions.Joins.{joining-sound, after-joining}
 
 module _ (g : List ℕ) where
   -- THE TRACKS LEFT

@@ -16,9 +16,10 @@ use Rattle.sweep.specs.declared.Joint.{Joint}
 use Rattle.sweep.specs.Tracks.{lowest, second, highest, many, lowestNet}
 use Rattle.sweep.specs.Drawing.{noJoint, later, jointOf, extendedAt, wideAt, extendedNet, netToJoin}
 use Rattle.sweep.proofs.Tracks.Strands.{Strand, lowest-is, highest-is, second-is, lowest<second, lowest<highest, second<highest, many-times}
-use Rattle.sweep.proofs.Tracks.Strands.{between, no-net, a-net}
+use Rattle.sweep.proofs.Tracks.Strands.{between}
+use Rattle.sweep.proofs.Tracks.Nets.{no-net, a-net}
 use Rattle.sweep.proofs.Gaps.Held.{Held}
-use Rattle.sweep.proofs.Gaps.Pins.{laterBy, true-of, false-of, of-true, of-false}
+use Rattle.sweep.proofs.Gaps.Pins.{Off, laterBy, true-of, false-of, of-true, of-false}
 
 -- a net that is joined: its strands, and its second where it has later pins
 pub record Bound (tr : List ℕ) (N : Joint) : Type 0 where
@@ -33,6 +34,20 @@ pub record Bound (tr : List ℕ) (N : Joint) : Type 0 where
 pub record Joins (top bottom : List ℕ) (c : ℕ) (tr : List ℕ) (N : Joint) : Type 0 where
   pub bound : N .net ≢ 0 → Bound tr N
   pub told : N .net ≢ 0 → Below 0 (right top bottom (suc c) (N .net)) (N .later)
+
+-- AN EXTENDED NET, where there is one
+module _ (top bottom : List ℕ) (c : ℕ) (tr : List ℕ) where
+  -- its pins all lie left, and it has strands
+  pub extended-right : extendedNet top bottom c tr ≢ 0 → (right top bottom c (extendedNet top bottom c tr) ≡ 0) × (0 < times (extendedNet top bottom c tr) tr)
+  unfolding extendedNet extendedAt
+  extended-right n =
+      let v = lowestNet (extendedAt top bottom c) tr in
+      let (e, p) = a-net (extendedAt top bottom c) tr v n refl in
+      (omega (arith, of-false (laterBy top bottom c v n) (not-true (later top bottom c v) (and-true (not (eqb v 0)) (not (later top bottom c v)) e .1))), p)
+
+  -- so it has no pins after the column either
+  pub extended-off : extendedNet top bottom c tr ≢ 0 → Off top bottom c (extendedNet top bottom c tr)
+  extended-off n = omega (arith, extended-right n, right-suc top bottom (extendedNet top bottom c tr) c n)
 
 module _ {t : ℕ} (top bottom : List ℕ) (c : ℕ) (tr : List ℕ) (h : Held t top bottom c tr) where
   -- net v as that net
@@ -76,34 +91,19 @@ module _ {t : ℕ} (top bottom : List ℕ) (c : ℕ) (tr : List ℕ) (h : Held t
         told = λ m. laterBy top bottom (suc c) v n;
       })
 
-  -- AN EXTENDED NET
-
-  -- its pins all lie left
-  extended-right : extendedNet top bottom c tr ≢ 0 → (right top bottom c (extendedNet top bottom c tr) ≡ 0) × (0 < times (extendedNet top bottom c tr) tr)
-  unfolding extendedNet extendedAt
-  extended-right n =
-      let v = lowestNet (extendedAt top bottom c) tr in
-      let (e, p) = a-net (extendedAt top bottom c) tr v n refl in
-      (omega (arith, of-false (laterBy top bottom c v n) (not-true (later top bottom c v) (and-true (not (eqb v 0)) (not (later top bottom c v)) e .1))), p)
-
-  -- and it has two strands or more
-  extended-two : extendedNet top bottom c tr ≢ 0 → 2 ≤ times (extendedNet top bottom c tr) tr
-  extended-two n = let (r, p) = extended-right n in ⊎-elim (λ z. omega arith) (λ z. z) (h .done (extendedNet top bottom c tr) n r)
+  -- AN EXTENDED NET has two strands or more
+  pub extended-two : extendedNet top bottom c tr ≢ 0 → 2 ≤ times (extendedNet top bottom c tr) tr
+  extended-two n = let (r, p) = extended-right top bottom c tr n in ⊎-elim (λ z. omega arith) (λ z. z) (h .done (extendedNet top bottom c tr) n r)
 
   -- the net of rule 2 of two-pin channels
   pub extended-joins : Joins top bottom c tr (jointOf top bottom c tr (extendedNet top bottom c tr))
   extended-joins = joins (extendedNet top bottom c tr) extended-two
-      (λ n e. absurd (omega (
-        arith,
-        of-true (laterBy top bottom (suc c) (extendedNet top bottom c tr) n) e,
-        extended-right n .0,
-        right-suc top bottom (extendedNet top bottom c tr) c n,
-      )))
+      (λ n e. absurd (omega (arith, of-true (laterBy top bottom (suc c) (extendedNet top bottom c tr) n) e, extended-off top bottom c tr n)))
 
   -- has no pins to come
   pub extended-over : jointOf top bottom c tr (extendedNet top bottom c tr) .net ≢ 0
       → right top bottom c (jointOf top bottom c tr (extendedNet top bottom c tr) .net) ≡ 0
-  extended-over n = let i = joint-net (extendedNet top bottom c tr) in subst (λ (v : ℕ). right top bottom c v ≡ 0) i (extended-right (λ z. n (sym i ∙ z)) .0)
+  extended-over n = let i = joint-net (extendedNet top bottom c tr) in subst (λ (v : ℕ). right top bottom c v ≡ 0) i (extended-right top bottom c tr (λ z. n (sym i ∙ z)) .0)
 
   -- where there is none, every net whose pins all lie left is done
   calm : extendedNet top bottom c tr ≡ 0 → (v : ℕ) → v ≢ 0 → right top bottom c v ≡ 0 → times v tr ≡ 0

@@ -6,7 +6,7 @@ use mathlib.Core.Logic.{_≢_}
 use native.Mathlib.Omega.{arith}
 use lib.Dec.{eqb, ltb}
 use Rattle.grid.specs.Channel.{pick}
-use Rattle.grid.proofs.Tests.{eqb-true, le-ltb, Same, same, diff, sameBy, Below, below, above, belowBy}
+use Rattle.grid.proofs.Tests.{eqb-true, eqb-false, and-true, not-true, le-ltb, Same, same, diff, sameBy, Below, below, above, belowBy}
 use Rattle.sweep.specs.declared.Action.{Action}
 use Rattle.sweep.specs.declared.Pin.{Pin}
 use Rattle.sweep.specs.declared.Free.{Free}
@@ -17,6 +17,7 @@ use Rattle.sweep.specs.Rules.{Kind, none, starts, continues, ends, kindO
 use Rattle.sweep.specs.TwoPin.{chooseTwo, byKinds}
 use Rattle.sweep.specs.ThreePin
 use Rattle.sweep.specs.ThreePin.{still, joinElse}
+use Rattle.sweep.specs.Working.{noPins, Kinded}
 use Rattle.sweep.specs.Drawing.{noJoint}
 
 -- what a function g of two kinds k and l answers, by their number m
@@ -36,14 +37,22 @@ pub none-of : (m k : ℕ) → m ≤ k → NoneOf m k → m ≡ 0
 none-of m zero h r = omega arith
 none-of m (suc k) h r = none-of m k (omega (arith, r .1)) (r .0)
 
--- two numbers that differ are not both 0
-pub not-both-none : (a b : ℕ) → (a ≡ b → ⊥) → (eqb a 0 && eqb b 0) ≡ false
-not-both-none a b h = go (eqb a 0) (eqb b 0) refl refl
+-- two numbers that are not both 0
+some-net : (a b : ℕ) → (a ≡ 0 → b ≡ 0 → ⊥) → (eqb a 0 && eqb b 0) ≡ false
+some-net a b h = go (eqb a 0) (eqb b 0) refl refl
   where
     go : (p q : Bool) → eqb a 0 ≡ p → eqb b 0 ≡ q → (p && q) ≡ false
     go false q e f = refl
     go true false e f = refl
-    go true true e f = absurd (h (eqb-true a 0 e ∙ sym (eqb-true b 0 f)))
+    go true true e f = absurd (h (eqb-true a 0 e) (eqb-true b 0 f))
+
+-- as two that differ
+pub not-both-none : (a b : ℕ) → (a ≡ b → ⊥) → (eqb a 0 && eqb b 0) ≡ false
+not-both-none a b h = some-net a b (λ x y. h (x ∙ sym y))
+
+-- and one net that has both pins
+pub one-net : (a b : ℕ) → (not (eqb a 0) && eqb a b) ≡ true → (eqb a 0 && eqb b 0) ≡ false
+one-net a b e = some-net a b (λ x y. eqb-false a 0 (not-true (eqb a 0) (and-true (not (eqb a 0)) (eqb a b) e .0)) x)
 
 -- the kind opposite one that does not continue, where the number of the pair is none of those of pins that start, end or are none
 opposite-start : (k l : ℕ) → k < 2 → l ≤ 3 → 4 * k + l ≢ 0 → 4 * k + l ≢ 1 → 4 * k + l ≢ 3 → 4 * k + l ≢ 4 → 4 * k + l ≢ 5 → 4 * k + l ≢ 7 → l ≡ 2
@@ -92,6 +101,16 @@ module _ (A B : Pin) (f : Free) (N : Joint) where
   pub by-number : (t m : ℕ) {x : Action} → (not (eqb (A .net) 0) && eqb (A .net) (B .net)) ≡ false → 4 * A .kind + B .kind ≡ m → (A .kind ≤ 3) × (B .kind ≤ 3)
       → x ≡ byKinds A B f N (kindOf (m / 4)) (kindOf (m % 4)) → x ≡ chooseTwo t A B f N
   by-number t m i e h r = by-kinds t i (at-number (byKinds A B f N) (A .kind) (B .kind) m e h r)
+
+-- TWO PINS whose kinds say where there is none
+module _ (A B : Pin) (a : Kinded A) (b : Kinded B) where
+  -- where the number of two kinds is 0, there are no pins
+  pub no-kinds-none : 4 * A .kind + B .kind ≡ 0 → noPins A B ≡ true
+  no-kinds-none e = rw (a .0 (omega arith), b .0 (omega arith))
+
+  -- where it is another, there is one
+  pub kinds-some : 4 * A .kind + B .kind ≢ 0 → noPins A B ≡ false
+  kinds-some h = some-net (A .net) (B .net) (λ x y. h (omega (arith, a .1 x, b .1 y)))
 
 -- two kinds that rule 2 of three-pin channels asks for: there is a pin, and none ends its net
 abbrev pub mayJoin : (k l : ℕ) → Bool

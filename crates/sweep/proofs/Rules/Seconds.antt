@@ -14,11 +14,17 @@ use Rattle.sweep.specs.TwoPin
 use Rattle.sweep.specs.TwoPin.{chooseTwo, joinOr}
 use Rattle.sweep.specs.ManyPin.{chooseMany, bothPins}
 use Rattle.sweep.specs.ThreePin.{chooseThree}
+use Rattle.sweep.specs.Working.{joinAlone}
 use Rattle.sweep.proofs.Rules.Kinds.{rule-two}
 
 -- the net of rule 2, its second lowest strand only where it leaves on that one
 abbrev pub leaving : Joint → Joint
 leaving N = record { net = N .net; low = N .low; second = pick (N .later) (N .second) 0; high = N .high; later = N .later }
+
+-- a column without pins
+pub alone-same : (N : Joint) → joinAlone (leaving N) ≡ joinAlone N
+unfolding joinAlone
+alone-same N = refl
 
 module _ (A B : Pin) (f : Free) (N : Joint) where
   -- its join

@@ -17,7 +17,8 @@ use Rattle.sweep.specs.declared.Double.{Double}
 use Rattle.sweep.specs.Tracks.{many}
 use Rattle.sweep.specs.Pairs.{mate}
 use Rattle.sweep.specs.Drawing.{loneDouble, latestDouble, otherDouble, doubleOf}
-use Rattle.sweep.proofs.Tracks.Strands.{lowest-is, highest-is, lowest<highest, many-times, between, no-net, a-net}
+use Rattle.sweep.proofs.Tracks.Strands.{lowest-is, highest-is, lowest<highest, many-times, between}
+use Rattle.sweep.proofs.Tracks.Nets.{no-net, a-net}
 use Rattle.sweep.proofs.Actions.Reduces.{Doubled}
 use Rattle.sweep.proofs.ThreePin.Pairs.{no-latest, a-latest, latest-most}
 use Rattle.sweep.proofs.ThreePin.Kept.{small, cap}

@@ -1,7 +1,7 @@
 -- The moves of three-pin channels that form no pair and take no free track: straight, full, those of pins that end their nets, a join, and pins that go
 -- direct.
 use Prim.Native.Nat.{ℕ, _≤_, _<_}
-use mathlib.Core.Path.{_≡_, refl, sym, _∙_}
+use mathlib.Core.Path.{_≡_, refl, sym, _∙_, subst₂}
 use mathlib.Core.Logic.{_⊎_, inl, inr, _≢_}
 use mathlib.Core.Bool.{_&&_, _||_}
 use mathlib.Core.List.{List}
@@ -17,13 +17,16 @@ use Rattle.sweep.specs.declared.Joint.{Joint}
 use Rattle.sweep.specs.Rules.{continues, ends, straight, full, joinNet, topEnds, bottomEnds, bothJoin, liesBelow}
 use Rattle.sweep.specs.ManyPin.{direct}
 use Rattle.sweep.specs.ThreePin.{still, eitherEnds}
+use Rattle.sweep.specs.Drawing.{joining}
 use Rattle.sweep.specs.Working.{topNet}
 use Rattle.sweep.proofs.Tracks.Strands.{strand-times}
 use Rattle.sweep.proofs.Tracks.After.{after-times}
 use Rattle.sweep.proofs.Columns.Sound.{grant-idle}
 use Rattle.sweep.proofs.Gaps.Pins.{On, Off, Met}
 use Rattle.sweep.proofs.Gaps.Joints.{Joins}
+use Rattle.sweep.proofs.Actions.Good.{Good}
 use Rattle.sweep.proofs.Actions.Ends.{bothJoin-good}
+use Rattle.sweep.proofs.Actions.Joins.{joining-good}
 use Rattle.sweep.proofs.Actions.Continues.{topDirect-good, bottomDirect-good, bothDirect-good}
 use Rattle.sweep.proofs.Rules.Chosen.{by, noPins, fullHere, here, started, topEndsHere, bottomEndsHere, joinHere}
 use Rattle.sweep.proofs.ThreePin.Kept.{thin-pin}
@@ -41,6 +44,24 @@ module _ {t : ℕ} {top bottom : List ℕ} {c : ℕ} {tr m : List ℕ} {A B : Pi
     where
       w : GoodMove k (still straight)
       w = still-good k (noPins top bottom (k .fit) c t tr (k .kept .held .size) A B (k .pin) f (k .free) a b)
+
+  -- an extended net v is joined
+  pub joining-works : A .net ≡ 0 → B .net ≡ 0 → (v : ℕ) → v ≢ 0 → 1 < times v tr → Off top bottom c v → Works k (still (joining tr v))
+  unfolding joining
+  joining-works a b v n p off = record {
+    goodMove = w;
+    light = alone-light k x w v (λ i. omega (arith, empty)) (λ u n o. ((λ i. n (sym i ∙ a)), (λ i. n (sym i ∙ b))));
+  }
+    where
+      x : Move
+      x = still (joining tr v)
+
+      w : GoodMove k x
+      w = still-good k (subst₂ (λ (p q : ℕ). Good top bottom c t tr p q (joining tr v)) (sym a) (sym b)
+          (joining-good top bottom c t tr (k .kept .held .size) v n p off))
+
+      empty : newWeight k x v ≡ 0
+      empty = nothing top bottom (k .fit) (k .three) c tr m (k .kept) x (w .forms) (w .good) v off (gone k x w v n off (inl refl))
 
   -- BOTH PINS OF ONE NET, which has none after
   pub full-works : A .net ≢ 0 → A .net ≡ B .net → Works k (still (full t (A .net) 0))

@@ -2,29 +2,36 @@
 use Prim.Native.Nat.{ℕ, zero, suc, _*_, _/_, _≤_, _<_}
 use mathlib.Core.Path.{_≡_, refl, sym, _∙_}
 use mathlib.Core.Logic.{inl, inr, _≢_}
+use mathlib.Core.Bool.{true}
 use mathlib.Core.List.{List}
 use native.Mathlib.Omega.{arith}
 use native.Mathlib.Decide.{ℕ-discrete}
+use lib.Dec.{eqb}
 use lib.ListN.{length, getD, replicate, length-replicate}
 use Rattle.grid.specs.declared.Family.the-variants.{ThreePin}
 use Rattle.grid.specs.Channel.{times, density, family}
 use Rattle.grid.specs.Nets.{lastColumn}
-use Rattle.grid.proofs.Tests.{ne-eqb}
+use Rattle.grid.proofs.Tests.{ne-eqb, eqb-false}
 use Rattle.grid.proofs.Counting.{zeros, sum-zero}
 use Rattle.grid.proofs.Rows.{RowsFit, before}
 use Rattle.sweep.specs.declared.Pin.{Pin}
 use Rattle.sweep.specs.declared.Move.{Move}
 use Rattle.sweep.specs.Pairs.{mate, noMates}
 use Rattle.sweep.specs.Tracks.{after}
-use Rattle.sweep.specs.Drawing.{freeOf, pinAt, jointOf, extendedNet, latestDouble, otherDouble, doubleOf, endOf, matesAfter, moveOf, move, state, gap}
+use Rattle.sweep.specs.ThreePin.{still}
+use Rattle.sweep.specs.Drawing.{freeOf, pinAt, jointOf, extendedNet, latestDouble, otherDouble, doubleOf, endOf, matesAfter, moveOf, move}
+use Rattle.sweep.specs.Drawing.{emptyAt, emptyColumn, stateBy, state, gap}
 use Rattle.sweep.proofs.Gaps.Held.{held-start}
 use Rattle.sweep.proofs.Gaps.Pins.{lowest-free, pinned}
-use Rattle.sweep.proofs.Gaps.Joints.{extended-joins, extended-over, extended-calm}
+use Rattle.sweep.proofs.Gaps.Joints.{extended-off, extended-two, extended-joins, extended-over, extended-calm}
 use Rattle.sweep.proofs.Actions.Good.{Good}
+use Rattle.sweep.proofs.Rules.Chosen.{by}
+use Rattle.sweep.proofs.Rules.Empty.{no-pins}
 use Rattle.sweep.proofs.ThreePin.Weights.{weight, Weigh, gone, extended, unborn, single, lone, weigh}
 use Rattle.sweep.proofs.ThreePin.Kept.{Kept, Forms, small}
 use Rattle.sweep.proofs.ThreePin.Mates.{kept-next}
 use Rattle.sweep.proofs.ThreePin.Works.{ThreeColumn, Works}
+use Rattle.sweep.proofs.ThreePin.Still.{straight-works, joining-works}
 use Rattle.sweep.proofs.ThreePin.Doubles.{doubles}
 use Rattle.sweep.proofs.ThreePin.Chosen.{chosen-works}
 
@@ -82,32 +89,49 @@ module _ (t : ℕ) (top bottom : List ℕ) (fit : RowsFit top bottom) (e : famil
     column : ThreeColumn t top bottom c tr m A B (freeOf tr)
     column = record { fit = fit; three = e; enough = enough; inside = inside; kept = k; pin = pinned top bottom c tr (k .held); free = lowest-free tr }
 
-    -- THE MOVE OF A COLUMN WORKS
-    move-works : Works column (moveOf t top bottom ThreePin c tr m)
+    -- WHAT THE RULES CHOOSE WORKS
+    rules-work : Works column (moveOf t top bottom ThreePin c tr m)
     unfolding moveOf
-    move-works =
+    rules-work =
         chosen-works column (doubleOf top bottom tr (latestDouble top bottom tr m)) (doubleOf top bottom tr (otherDouble top bottom tr m)) (doubles column)
         (jointOf top bottom c tr (extendedNet top bottom c tr)) (extended-joins top bottom c tr (k .held)) (extended-over top bottom c tr (k .held))
         (extended-calm top bottom c tr (k .held)) (endOf top bottom (getD top c 0)) (endOf top bottom (getD bottom c 0))
         (end-of top bottom (getD top c 0) (A .net) (column .pin .above .net)) (end-of top bottom (getD bottom c 0) (B .net) (column .pin .below .net))
 
+    -- and what a column without pins does
+    empty-works : emptyAt top bottom c ≡ true → Works column (still (emptyColumn top bottom c tr))
+    unfolding emptyColumn
+    empty-works i =
+        let (p, q) = no-pins top bottom c i in
+        let a = sym (column .pin .above .net) ∙ p in
+        let b = sym (column .pin .below .net) ∙ q in
+        by (λ x. Works column (still x)) (eqb (extendedNet top bottom c tr) 0)
+        (λ z. straight-works column a b)
+        (λ z. let n = eqb-false (extendedNet top bottom c tr) 0 z in
+        joining-works column a b (extendedNet top bottom c tr) n (extended-two top bottom c tr (k .held) n) (extended-off top bottom c tr n))
+
+    -- THE MOVE OF A COLUMN WORKS
+    move-works : Works column (move t top bottom c tr m)
+    unfolding move
+    move-works = by (Works column) (emptyAt top bottom c) empty-works (λ i. rw e rules-work)
+
     -- so the invariant holds in the next gap
-    next-kept : let x = moveOf t top bottom ThreePin c tr m in Kept t top bottom (suc c) (after (x .action) tr) (matesAfter top bottom c x m)
+    next-kept : let x = move t top bottom c tr m in Kept t top bottom (suc c) (after (x .action) tr) (matesAfter top bottom c x m)
     next-kept =
         let w = move-works .goodMove in
-        kept-next top bottom fit e c tr m k (moveOf t top bottom ThreePin c tr m) (w .forms) (w .good) (move-works .light)
+        kept-next top bottom fit e c tr m k (move t top bottom c tr m) (w .forms) (w .good) (move-works .light)
 
   -- THE INVARIANT
   pub kept : (c : ℕ) → c ≤ length top → Kept t top bottom c (gap t top bottom c) (state t top bottom c .mates)
-  unfolding state move
+  unfolding stateBy
   kept zero p = kept-start t top bottom
-  kept (suc c) p = rw e (next-kept c p (gap t top bottom c) (state t top bottom c .mates) (kept c (omega arith)))
+  kept (suc c) p = next-kept c p (gap t top bottom c) (state t top bottom c .mates) (kept c (omega arith))
 
-  -- SO EVERY COLUMN'S ACTION IS GOOD
+  -- SO THE ACTION THAT THE RULES CHOOSE IS GOOD IN EVERY COLUMN
   pub three-move-good : (c : ℕ) → c < length top
       → Good top bottom c t (gap t top bottom c) (getD top c 0) (getD bottom c 0)
       (moveOf t top bottom ThreePin c (gap t top bottom c) (state t top bottom c .mates) .action)
-  three-move-good c p = move-works c p (gap t top bottom c) (state t top bottom c .mates) (kept c (omega arith)) .goodMove .good
+  three-move-good c p = rules-work c p (gap t top bottom c) (state t top bottom c .mates) (kept c (omega arith)) .goodMove .good
 
   -- and the nets that it pairs are numbered up to 256
   pub three-pair-small : (c : ℕ) → c < length top
@@ -118,7 +142,7 @@ module _ (t : ℕ) (top bottom : List ℕ) (fit : RowsFit top bottom) (e : famil
       x = moveOf t top bottom ThreePin c (gap t top bottom c) (state t top bottom c .mates)
 
       f : Forms top bottom c (gap t top bottom c) (state t top bottom c .mates) x
-      f = move-works c p (gap t top bottom c) (state t top bottom c .mates) (kept c (omega arith)) .goodMove .forms
+      f = rules-work c p (gap t top bottom c) (state t top bottom c .mates) (kept c (omega arith)) .goodMove .forms
 
       go : Dec (x .double ≡ 0) → (x .double ≤ 256) × (x .single ≤ 256)
       go (yes z) = (omega arith, omega (arith, f .none z))

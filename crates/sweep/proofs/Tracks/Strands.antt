@@ -1,16 +1,16 @@
--- The strands of a net: which tracks its lowest, second and highest are, and that all lie between; the lowest net that passes a test.
-use Prim.Native.Nat.{ℕ, zero, suc, _+_, _≤_, _<_, suc-le-suc, min}
+-- The strands of a net: which tracks its lowest, second and highest are, and that all lie between.
+use Prim.Native.Nat.{ℕ, zero, suc, _+_, _≤_, _<_, suc-le-suc}
 use mathlib.Core.Path.{_≡_, refl, sym, ap, _∙_, subst}
-use mathlib.Core.Logic.{_⊎_, inl, inr, _≢_, ⊎-elim}
+use mathlib.Core.Logic.{_⊎_, inl, inr, _≢_}
 use mathlib.Core.Bool.{Bool, true, false}
 use mathlib.Core.List.{List, [], _∷_}
 use native.Mathlib.Omega.{arith}
-use lib.Dec.{eqb, ltb}
+use lib.Dec.{eqb}
 use lib.ListN.{length, getD, drop}
 use Rattle.grid.specs.Channel.{pick, bit, times}
-use Rattle.grid.proofs.Tests.{Same, same, diff, sameBy, Below, below, above, belowBy, eqBit}
+use Rattle.grid.proofs.Tests.{Same, same, diff, sameBy}
 use Rattle.grid.proofs.Counting.{holds-times, at-below}
-use Rattle.sweep.specs.Tracks.{strandsFrom, strands, first, last, lowest, second, highest, many, lesser, lowestNet}
+use Rattle.sweep.specs.Tracks.{strandsFrom, strands, first, last, lowest, second, highest, many}
 
 -- track f holds v, in a list of tracks that begins at track y
 pub record At (y v : ℕ) (l : List ℕ) (f : ℕ) : Type 0 where
@@ -260,49 +260,3 @@ module _ (v : ℕ) (tr : List ℕ) where
   unfolding lowest highest strands
   lone-strand h j p e = subst (λ (z : ℕ). (z ≡ first (strandsFrom 1 v tr)) × (z ≡ last (strandsFrom 1 v tr))) (omega arith)
       (any-lone (1 + j) (strandsFrom 1 v tr) (member 1 v tr j p e) (let k = strands-length 1 v tr in omega arith))
-
--- THE LOWEST NET THAT PASSES A TEST
-
--- the lesser of two nets is none where both are none, and else one of them
-lesser-zero : (x y : ℕ) → lesser x y ≡ 0 → (x ≡ 0) × (y ≡ 0)
-unfolding lesser
-lesser-zero zero y e = (refl, e)
-lesser-zero (suc x) zero e = absurd (omega arith)
-lesser-zero (suc x) (suc y) e = absurd (omega arith)
-
-lesser-is : (x y : ℕ) → (lesser x y ≡ x) ⊎ (lesser x y ≡ y)
-unfolding lesser
-lesser-is zero y = inr refl
-lesser-is (suc x) zero = inl refl
-lesser-is (suc x) (suc y) = go (ltb x y) (belowBy x y)
-  where
-    go : (q : Bool) → Below x y q → (min (suc x) (suc y) ≡ suc x) ⊎ (min (suc x) (suc y) ≡ suc y)
-    go true (below h) = inl (omega arith)
-    go false (above h) = inr (omega arith)
-
--- where none is found, no net that stands on a track passes
-pub no-net : (p : ℕ → Bool) (l : List ℕ) → lowestNet p l ≡ 0 → (v : ℕ) → v ≢ 0 → p v ≡ true → times v l ≡ 0
-unfolding lowestNet times
-no-net p [] e v n t = refl
-no-net p (x ∷ xs) e v n t =
-    let z = lesser-zero (pick (p x) x 0) (lowestNet p xs) e in
-    let ih = no-net p xs (z .1) v n t in
-    go (eqb x v) (sameBy x v) (z .0) ih
-  where
-    go : (q : Bool) → Same x v q → pick (p x) x 0 ≡ 0 → times v xs ≡ 0 → bit q + times v xs ≡ 0
-    go true (same s) f ih = absurd (n (rw (s, t) at f))
-    go false d f ih = omega arith
-
--- a net that is found passes, and stands on a track
-pub a-net : (p : ℕ → Bool) (l : List ℕ) (v : ℕ) → v ≢ 0 → lowestNet p l ≡ v → (p v ≡ true) × (0 < times v l)
-unfolding lowestNet times
-a-net p [] v n e = absurd (n (sym e))
-a-net p (x ∷ xs) v n e =
-    ⊎-elim
-    (λ h. here (p x) refl (sym h ∙ e))
-    (λ h. let ih = a-net p xs v n (sym h ∙ e) in let n = ih .1 in (ih .0, omega arith))
-    (lesser-is (pick (p x) x 0) (lowestNet p xs))
-  where
-    here : (q : Bool) → p x ≡ q → pick q x 0 ≡ v → (p v ≡ true) × (0 < bit (eqb x v) + times v xs)
-    here true g f = (ap p (sym f) ∙ g, ⊎-elim (λ d. omega arith) (λ d. absurd (d .0 f)) (eqBit x v))
-    here false g f = absurd (n (sym f))

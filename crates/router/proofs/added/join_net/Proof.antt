@@ -1,23 +1,24 @@
 -- `join_net` meets its contract, by `joining-written`.
-use Rattle.router.proofs.Laws.Added.{joining-written}
+use Rattle.router.proofs.Laws.Added.{joining-is, joining-written}
+use Rattle.router.specs.Working.{tracksIn}
 use borrow.Author.Needs.{needs}
 use Rattle.router.proofs.added.join_net.Statement.{statement}
 use Rattle.router.proofs.added.join_net.Tie as tie
 
-mul-joining : tie.Need-mul-joining
-mul-joining c = search needs
+mul-join-strands : tie.Need-mul-join-strands
+mul-join-strands c = search needs
 
-element-copy-out-joining : tie.Need-element-copy-out-joining
-element-copy-out-joining c = search needs
+element-copy-out-join-strands : tie.Need-element-copy-out-join-strands
+element-copy-out-join-strands c = search needs
 
-mul-joining-2 : tie.Need-mul-joining-2
-mul-joining-2 c = search needs
+mul-join-strands-2 : tie.Need-mul-join-strands-2
+mul-join-strands-2 c = search needs
 
-element-copy-out-joining-2 : tie.Need-element-copy-out-joining-2
-element-copy-out-joining-2 c = search needs
+element-copy-out-join-strands-2 : tie.Need-element-copy-out-join-strands-2
+element-copy-out-join-strands-2 c = search needs
 
-joining-requires : tie.Need-joining-requires
-joining-requires c κs = search needs
+join-strands-requires : tie.Need-join-strands-requires
+join-strands-requires c κs = search needs
 
 drop-net-requires : tie.Need-drop-net-requires
 drop-net-requires c κs = search needs
@@ -42,22 +43,24 @@ same-length c = search needs
 returns : tie.Need-returns
 returns c =
     let o = c .before .before .before .before .before .before .before .before .before .before .before .before .before .before .before in
-    let j = c .before .before .before .before .before .before .before .before .before .before .before .joining in
+    let j = c .before .before .before .before .before .before .before .before .before .before .before .join-strands in
+    let h = o .pre .1 .0 in
     let d = c .before .before .before .before .before .drop-net in (
       d .ensures,
-      joining-written (o .args .t) (o .args .tracks .now) (o .args .free .now) (o .args .low .now) (o .args .high .now) (o .args .many .now) (o .args .v) (o .args .w) (o .args .layout .now) _ (j .result)
-          (o .pre .0 .0) (o .pre .0 .1) (o .pre .1 .0) (j .ensures) (d .ensures) (c .before .before .write-at .ensures),
+      joining-written (o .args .t) (o .args .tracks .now) (o .args .v) (o .args .w) (o .args .layout .now) _ (j .result)
+          (joining-is (tracksIn (o .args .t) (o .args .tracks .now)) (o .args .v) _ _ (j .result) (j .ensures) (h .lows .at (o .args .v) (o .pre .0 .0) (o .pre .0 .1)) (h .highs .at (o .args .v) (o .pre .0 .0) (o .pre .0 .1))) (d .ensures)
+          (c .before .before .write-at .ensures),
     )
 
 pub join-net-spec : {M : Type 1} → statement M
 join-net-spec =
     tie.close
     (tie.spec
-    mul-joining
-    element-copy-out-joining
-    mul-joining-2
-    element-copy-out-joining-2
-    joining-requires
+    mul-join-strands
+    element-copy-out-join-strands
+    mul-join-strands-2
+    element-copy-out-join-strands-2
+    join-strands-requires
     drop-net-requires
     mul-write-at
     add-write-at

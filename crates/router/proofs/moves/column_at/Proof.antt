@@ -1,8 +1,8 @@
--- `column_at` meets its contract, by `column-is`, `column-three-is` and `column-many-is`.
+-- `column_at` meets its contract, by the law of its family: `column-is`, `column-three-is` or `column-many-is`.
 use Rattle.router.proofs.Laws.Sweeps
 use Rattle.router.proofs.Laws.Doubles.{column-three-is, pin-small}
 use Rattle.router.specs.Working.{narrow, forms}
-use mathlib.Core.Path.{refl, ap}
+use mathlib.Core.Path.{ap}
 use native.Mathlib.Omega.{arith}
 use borrow.Author.Needs.{needs}
 use Rattle.router.proofs.moves.column_at.Statement.{statement}
@@ -36,12 +36,6 @@ pin-at-requires-2 c κs =
 enum-told : tie.Need-enum-told
 enum-told c = search needs
 
-enum-told-2 : tie.Need-enum-told-2
-enum-told-2 c = search needs
-
-enum-told-3 : tie.Need-enum-told-3
-enum-told-3 c = search needs
-
 pair-column-requires : tie.Need-pair-column-requires
 pair-column-requires c κs =
     let b = c .before .before .pin-at2 in
@@ -57,13 +51,16 @@ pair-column-requires c κs =
         h .frees,
       ),
       (
-        (h .lows, h .highs),
-        Sweeps.extended-small (o .args .top .now) (o .args .bottom .now) (o .args .first .now) (o .args .last .now) (o .pre .1 .0 .spans) h (o .args .c) (o .pre .1 .1 .0 .marked),
+        (Sweeps.pin-kinded _ _ _ _ _ _ _ (a .result) (a .ensures), Sweeps.pin-kinded _ _ _ _ _ _ _ (b .result) (b .ensures)),
+        ((h .lows, h .highs), Sweeps.extended-small (o .args .top .now) (o .args .bottom .now) (o .args .first .now) (o .args .last .now) (o .pre .1 .0 .spans) h (o .args .c) (o .pre .1 .1 .0 .marked)),
       ),
     )
 
 still-requires : tie.Need-still-requires
 still-requires c κs = search needs
+
+enum-told-2 : tie.Need-enum-told-2
+enum-told-2 c = search needs
 
 three-column-requires : tie.Need-three-column-requires
 three-column-requires c κs =
@@ -79,72 +76,58 @@ three-column-requires c κs =
         h .sized,
         h .frees,
       ),
-      (
-        (h .lows, h .highs),
-        Sweeps.extended-small (o .args .top .now) (o .args .bottom .now) (o .args .first .now) (o .args .last .now) (o .pre .1 .0 .spans) h (o .args .c) (o .pre .1 .1 .0 .marked),
-      ),
+      ((h .lows, h .highs), Sweeps.extended-small (o .args .top .now) (o .args .bottom .now) (o .args .first .now) (o .args .last .now) (o .pre .1 .0 .spans) h (o .args .c) (o .pre .1 .1 .0 .marked)),
     )
 
-returns : tie.Need-returns
-returns c =
-    let o = c .before .before .before .before .before .before .before .before .before .before in
-    Sweeps.column-is (o .args .top .now) (o .args .bottom .now) (o .args .first .now) (o .args .last .now) (o .args .c) _ _ (o .pre .1 .1 .0 .holds) (o .pre .1 .1 .0 .marked)
-    (c .before .before .before .before .before .before .pin-at .ensures) (c .before .before .before .before .pin-at2 .ensures) _ _ (o .args .mates .now) (c .before .before .enum-told .given .1) (o .pre .1 .0) (c .before .pair-column .ensures) (c .still .ensures)
-
-returns-2 : tie.Need-returns-2
-returns-2 c =
-    let o = c .before .before .before .before .before .before .before .before .before in
-    let g = c .before .enum-told2 .given .1 in
-    column-three-is (o .args .top .now) (o .args .bottom .now) (o .args .first .now) (o .args .last .now) (o .args .c) _ _ _ (o .pre .1 .1 .0 .holds) (o .pre .1 .1 .0 .marked)
-    (o .args .mates .now) (o .args .lone .now) (o .pre .1 .1 .1 .lone (ap forms g)) (c .before .before .before .before .before .pin-at .ensures) (c .before .before .before .pin-at2 .ensures) g (o .pre .1 .0) (c .three-column .ensures)
-
-free-tracks-requires : tie.Need-free-tracks-requires
-free-tracks-requires c κs = search needs
-
-net-to-join-requires : tie.Need-net-to-join-requires
-net-to-join-requires c κs = search needs
-
-joint-at-requires : tie.Need-joint-at-requires
-joint-at-requires c κs =
-    let o = c .before .before .before .before .before .before .before .before .before .before in
-    let h = o .pre .1 .1 .0 .holds in (
-      (
-        h .fits,
-        h .sized,
-        omega (arith, o .pre .0, o .pre .1 .0 .most),
-        Sweeps.to-join-small (o .args .top .now) (o .args .bottom .now) (o .args .first .now) (o .args .last .now) (o .pre .1 .0 .spans) h (o .args .c) (o .pre .1 .1 .0 .marked) (ap narrow (c .before .before .enum-told3 .given .1)) (c .net-to-join .result) (c .net-to-join .ensures),
-      ),
-      (h .lows, h .highs),
-    )
-
-cast-choose-many : tie.Need-cast-choose-many
-cast-choose-many c = omega (arith, c .before .before .before .before .before .before .before .before .before .before .before .pre .1 .0 .fits)
-
-add-choose-many : tie.Need-add-choose-many
-add-choose-many c = omega (arith, c .before .before .before .before .before .before .before .before .before .before .before .pre .1 .0 .fits)
+enum-told-3 : tie.Need-enum-told-3
+enum-told-3 c = search needs
 
 later-than-requires : tie.Need-later-than-requires
 later-than-requires c κs =
-    let o = c .before .before .before .before .before .before .before .before .before .before .before in
+    let o = c .before .before .before .before .before .before .before .before in
     (omega (arith, o .pre .0, o .pre .1 .0 .most), o .pre .1 .0 .tops (o .args .c))
 
-choose-many-requires : tie.Need-choose-many-requires
-choose-many-requires c κs = search needs
+many-column-requires : tie.Need-many-column-requires
+many-column-requires c κs =
+    let o = c .before .before .before .before .before .before .before .before .before in
+    let h = o .pre .1 .1 .0 .holds in (
+      (omega (arith, o .pre .0, o .pre .1 .0 .most), h .fits, h .sized, h .frees),
+      (
+        (h .lows, h .highs),
+        Sweeps.to-join-small (o .args .top .now) (o .args .bottom .now) (o .args .first .now) (o .args .last .now) (o .pre .1 .0 .spans) h (o .args .c) (o .pre .1 .1 .0 .marked) (ap narrow (c .before .enum-told3 .given .1)),
+      ),
+    )
 
 still-requires-2 : tie.Need-still-requires-2
 still-requires-2 c κs = search needs
 
+returns : tie.Need-returns
+returns c =
+    let b = c .before .before .before .before .pin-at2 in
+    let a = c .before .before .before .before .before .before .pin-at in
+    let o = c .before .before .before .before .before .before .before .before .before .before in
+    let h = o .pre .1 .1 .0 .holds in
+    Sweeps.column-is (o .args .top .now) (o .args .bottom .now) (o .args .first .now) (o .args .last .now) (o .args .c) (a .result) (b .result) h (o .pre .1 .1 .0 .marked) (a .ensures) (b .ensures) _ _ (o .args .mates .now) (c .before .before .enum-told .given .1) (o .pre .1 .0)
+    (c .before .pair-column .ensures) (c .still .ensures)
+
+returns-2 : tie.Need-returns-2
+returns-2 c =
+    let b = c .before .before .before .pin-at2 in
+    let a = c .before .before .before .before .before .pin-at in
+    let o = c .before .before .before .before .before .before .before .before .before in
+    let h = o .pre .1 .1 .0 .holds in
+    let g = c .before .enum-told2 .given .1 in
+    column-three-is (o .args .top .now) (o .args .bottom .now) (o .args .first .now) (o .args .last .now) (o .args .c) (a .result) (b .result) _ h (o .pre .1 .1 .0 .marked) (o .args .mates .now) (o .args .lone .now) (o .pre .1 .1 .1 .lone (ap forms g)) (a .ensures) (b .ensures) g
+    (o .pre .1 .0) (c .three-column .ensures)
+
 returns-3 : tie.Need-returns-3
 returns-3 c =
-    let e = c .before .before .before .before .before .before in
-    let a = c .before .before .before .before .before .before .before .before .before .before .pin-at in
-    let b = c .before .before .before .before .before .before .before .before .pin-at2 in
-    let o = c .before .before .before .before .before .before .before .before .before .before .before .before .before .before in
+    let b = c .before .before .before .before .before .pin-at2 in
+    let a = c .before .before .before .before .before .before .before .pin-at in
+    let o = c .before .before .before .before .before .before .before .before .before .before .before in
     let h = o .pre .1 .1 .0 .holds in
-    Sweeps.column-many-is (o .args .top .now) (o .args .bottom .now) (o .args .first .now) (o .args .last .now) (o .args .c) (a .result) (b .result) h (o .pre .1 .1 .0 .marked)
-    (a .ensures) (b .ensures) (e .enum-told3 .given .1) (o .pre .1 .0)
-    _ _ _ _ _ _ (o .args .mates .now) (c .before .before .before .before .before .free-tracks .ensures (o .args .t) (o .args .tracks .now) (h .fits) (h .sized) (h .frees)) (c .before .before .before .before .net-to-join .ensures)
-    (c .before .before .before .joint-at .ensures) (c .before .before .later-than .ensures) (c .before .choose-many .ensures (o .args .t) refl) (c .still2 .ensures)
+    Sweeps.column-many-is (o .args .top .now) (o .args .bottom .now) (o .args .first .now) (o .args .last .now) (o .args .c) (a .result) (b .result) h (o .pre .1 .1 .0 .marked) (a .ensures) (b .ensures) _ _ _ (o .args .mates .now) (c .before .before .before .enum-told3 .given .1) (o .pre .1 .0)
+    (c .before .before .later-than .ensures) (c .before .many-column .ensures) (c .still2 .ensures)
 
 pub column-at-spec : {M : Type 1} → statement M
 column-at-spec =
@@ -163,13 +146,8 @@ column-at-spec =
     enum-told-2
     three-column-requires
     enum-told-3
-    free-tracks-requires
-    net-to-join-requires
-    joint-at-requires
-    cast-choose-many
-    add-choose-many
     later-than-requires
-    choose-many-requires
+    many-column-requires
     still-requires-2
     returns
     returns-2

@@ -7,12 +7,12 @@ use borrow.Author.Needs.{needs}
 use Rattle.rules.proofs.many_pin.choose_many.Statement.{statement}
 use Rattle.rules.proofs.many_pin.choose_many.Tie as tie
 
-go-straight-requires : tie.Need-go-straight-requires
-go-straight-requires c κs = search needs
+join-alone-requires : tie.Need-join-alone-requires
+join-alone-requires c κs = search needs
 
 returns : tie.Need-returns
 unfolding ManyPin.chooseMany
-returns c t e = simp (eq-eqb _ _ (c .before .if2 .taken), eq-eqb _ 0 (sym (c .before .before .before .if1 .taken) ∙ c .before .if2 .taken)) (c .go-straight .ensures)
+returns c t e = simp (eq-eqb _ _ (c .before .if2 .taken), eq-eqb _ 0 (sym (c .before .before .before .if1 .taken) ∙ c .before .if2 .taken)) (c .join-alone .ensures)
 
 both-pins-requires : tie.Need-both-pins-requires
 both-pins-requires c κs = search needs
@@ -39,7 +39,7 @@ pub choose-many-spec : {M : Type 1} → statement M
 choose-many-spec =
     tie.close
     (tie.spec
-    go-straight-requires
+    join-alone-requires
     returns
     both-pins-requires
     returns-2

@@ -8,15 +8,15 @@ use borrow.Author.Needs.{needs}
 use Rattle.rules.proofs.three_pin.choose_three.Statement.{statement}
 use Rattle.rules.proofs.three_pin.choose_three.Tie as tie
 
-go-straight-requires : tie.Need-go-straight-requires
-go-straight-requires c κs = search needs
+join-alone-requires : tie.Need-join-alone-requires
+join-alone-requires c κs = search needs
 
 still-requires : tie.Need-still-requires
 still-requires c κs = search needs
 
 returns : tie.Need-returns
 unfolding ThreePin.chooseThree
-returns c t e = simp (eq-eqb _ _ (c .before .before .if2 .taken), eq-eqb _ 0 (sym (c .before .before .before .before .if1 .taken) ∙ c .before .before .if2 .taken)) (moves (c .still .ensures) (c .before .go-straight .ensures))
+returns c t e = simp (eq-eqb _ _ (c .before .before .if2 .taken), eq-eqb _ 0 (sym (c .before .before .before .before .if1 .taken) ∙ c .before .before .if2 .taken)) (moves (c .still .ensures) (c .before .join-alone .ensures))
 
 go-full-requires : tie.Need-go-full-requires
 go-full-requires c κs = search needs
@@ -58,7 +58,7 @@ pub choose-three-spec : {M : Type 1} → statement M
 choose-three-spec =
     tie.close
     (tie.spec
-    go-straight-requires
+    join-alone-requires
     still-requires
     returns
     go-full-requires
