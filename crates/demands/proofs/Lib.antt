@@ -10,3 +10,4 @@ pub mod Families
 pub mod Tracks
 pub mod Needs
 pub mod Spelling
+pub mod EmptyColumns

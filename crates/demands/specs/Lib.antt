@@ -8,6 +8,7 @@ pub mod Slices
 pub mod Solutions
 -- The third demand, whole: `Tracks`.
 pub mod Tracks
--- Document 02's requests: of the slice that routing is lent, `Needs`; of the one spelling of a channel, `Spelling`.
+-- Document 02's requests: of the slice that routing is lent, `Needs`; of the one spelling of a channel, `Spelling`; of columns without pins, `EmptyColumns`.
 pub mod Needs
 pub mod Spelling
+pub mod EmptyColumns
