@@ -33,6 +33,29 @@ CASES = (  # the channels to try of the scope paper
     ([256, 256], [0, 0]),
 )
 
+EMPTY_COLUMNS = (  # a net is stretched, or has three strands, left of a column without pins
+    # Two-pin nets.
+    ([3, 1, 2, 0, 4, 4], [2, 0, 1, 0, 0, 3]),  # net 1 is joined, and the drawing is one column wider than if it ran straight
+    ([2, 4, 0], [4, 2, 0]),  # one narrower
+    ([1, 3, 0, 2, 0], [3, 1, 0, 0, 2]),  # the tracks are free for the next net
+    ([4, 1, 3, 4, 0, 0], [3, 5, 5, 1, 0, 0]),  # two nets in two columns
+    ([4, 3, 2, 6, 0], [2, 6, 4, 3, 0]),  # the lower-numbered of two nets
+    # The third sweep.
+    ([4, 4, 5, 0], [5, 0, 4, 0]),  # one narrower
+    ([3, 4, 0, 1, 0, 1], [4, 3, 0, 0, 0, 1]),  # the joined net is no longer a double one
+    ([4, 2, 4, 3, 0, 4, 0], [3, 1, 2, 1, 0, 2, 0]),  # beside a pair
+    ([1, 3, 5, 3, 3, 0], [5, 4, 4, 1, 4, 0]),  # three strands
+    ([2, 5, 0, 1, 2, 0], [1, 4, 5, 4, 5, 0]),  # the lower-numbered of two nets
+    ([5, 3, 0, 1, 4, 0, 6, 5, 6], [4, 4, 0, 5, 1, 0, 0, 0, 3]),  # one wider; the first empty column has no stretched net
+    # Other channels.
+    ([1, 2, 1, 0], [0, 2, 2, 0]),  # one narrower
+    ([2, 1, 1, 0, 2], [1, 2, 2, 0, 0]),  # an open net of three strands runs straight
+    ([3, 4, 0, 1, 5, 4, 5, 0, 3], [4, 3, 0, 0, 1, 1, 3, 0, 3]),  # a stretched net beside a lower-numbered open one of three strands
+    ([2, 3, 2, 4, 0], [2, 4, 3, 3, 0]),  # three strands
+    ([3, 4, 1, 3, 4, 0], [2, 0, 1, 1, 2, 0]),  # the lower-numbered of two nets
+    ([2, 6, 1, 0, 6, 5, 5], [1, 2, 2, 0, 4, 5, 4]),  # one wider
+)
+
 
 def split(terminals):
     """Rows from a list of terminals, bottom and top in turn."""
@@ -175,13 +198,13 @@ def damaged(chance):
 
 
 def records(count):
-    """The cases of the paper, every n from 0 to 64, the densest, those of the third sweep, then as many others as asked for."""
+    """The cases of the paper, every n from 0 to 64, the densest, those of the third sweep and with empty columns, then as many others as asked for."""
     chance = random.Random(count)
     made = [write_record(top, bottom) for top, bottom in CASES]
     made += [write_record(*(channel if n < 24 else sparse)(chance, n)) for n in range(LISTED + 1)]
     made += [write_record(*crossing(chance, LISTED)), write_record(*thirds(chance, LISTED))]
     made += [write_record(*dense_many(chance, LISTED, pins)) for pins in (3, 4)]
-    made += [write_record(top, bottom) for top, bottom in three_pin_channels()]
+    made += [write_record(top, bottom) for top, bottom in (*three_pin_channels(), *EMPTY_COLUMNS)]
     for _ in range(count):
         kind = chance.randrange(4)
         if kind < 2:

@@ -56,10 +56,10 @@ class Column:
 
 
 class Pins:
-    """The pins of one column with their kinds."""
+    """The pins of one column with their kinds; a column that is added has none."""
 
     def __init__(self, top, bottom, column, ends):
-        self.top, self.bottom = top[column - 1], bottom[column - 1]
+        self.top, self.bottom = (top[column - 1], bottom[column - 1]) if column <= len(top) else (0, 0)
         self.column, self.ends = column, ends
 
     def here(self):

@@ -1,6 +1,6 @@
 """The sweeps of the second router and the slice length that they need, from documents 01 and 02 alone.
 
-Two-pin and many-pin channels are drawn here, those of the third sweep in second_three_pin.py.
+Two-pin and many-pin channels are drawn here, and the columns without pins of all sweeps; the rules of the third sweep are in second_three_pin.py.
 """
 
 from second_channel import MANY_PIN, THREE_PIN, TWO_PIN, density, family, refusal, span, tracks
@@ -8,12 +8,17 @@ from second_column import Column, Pins, both_end, bottom_adds, bottom_ends, can_
 from second_three_pin import ThreePinSweep
 
 
+def empty_column(place, pins):
+    """A column without pins, of any sweep or added after it: the lowest-numbered stretched net is joined."""
+    net = stretched_net(place, pins)
+    if net:
+        close_net(place, pins, net)
+
+
 def two_pin_column(place, pins):
-    """One column of a channel whose nets have two pins each."""
+    """One column with pins, of a channel whose nets have two pins each."""
     top, bottom = pins.top, pins.bottom
     here = pins.here()
-    if not here:
-        return
     if top == bottom:
         place.from_bottom(bottom, place.top_row)
     elif all(pins.starts(net) for net in here):
@@ -61,10 +66,8 @@ def end_pair(place, top, bottom):
 
 
 def many_pin_column(place, pins):
-    """One column of another channel with a net of three or more pins."""
+    """One column with pins, of another channel with a net of three or more pins."""
     top, bottom = pins.top, pins.bottom
-    if not top and not bottom:
-        return
     both = top == bottom
     if both and (place.left.get(top) or not pins.follow(top)):
         place.from_bottom(top, place.top_row)
@@ -152,13 +155,8 @@ def route(top, bottom):
     strands, layout, width = {}, [], 0
     while width < len(top) or any(strands.values()):
         width += 1
-        place = Column(strands, t)
-        if width <= len(top):
-            draw(place, Pins(top, bottom, width, ends))
-        else:
-            net = min(place.left)
-            place.wire(net, place.left[net][0], place.left[net][-1])
-            place.leaves_on(net, ())
+        place, pins = Column(strands, t), Pins(top, bottom, width, ends)
+        (draw if pins.here() else empty_column)(place, pins)
         layout += place.entries()
         strands = place.right
     return density(top, bottom), t, width, layout

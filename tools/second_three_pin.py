@@ -14,7 +14,7 @@ class ThreePinSweep:
         self.pairs = set()
 
     def column(self, place, pins):
-        """One column; then a pair is over if one of its nets is."""
+        """One column with pins; then a pair is over if one of its nets is."""
         if pins.top == pins.bottom:
             full_vertical(place, pins)
         elif any(map(pins.ends_here, pins.here())):
@@ -78,10 +78,9 @@ class ThreePinSweep:
 
 
 def full_vertical(place, pins):
-    """Rule 1: no pin, or both pins of one net, which ends with them."""
-    if pins.top:
-        place.from_bottom(pins.bottom, place.top_row)
-        place.leaves_on(pins.top, ())
+    """Rule 1: both pins of one net, which ends with them."""
+    place.from_bottom(pins.bottom, place.top_row)
+    place.leaves_on(pins.top, ())
 
 
 def reduce_net(place, pins, net):

@@ -118,29 +118,29 @@ class Stored(unittest.TestCase):
 
 
 class Routes(unittest.TestCase):
-    """The second router, on the worked cases of job3-routes.txt, job3-listings.txt and job5-before-7-needs.txt and on channels of the third sweep."""
+    """The second router, on the worked cases of job3-7-routes.txt, job3-7-listings.txt and job5-needs.txt and on other channels."""
 
     def parts(self, name):
         return second_router.blocks(HERE / "cases" / name)
 
     def test_worked_routes(self):
-        parts = self.parts("job3-routes.txt")
+        parts = self.parts("job3-7-routes.txt")
         self.assertEqual([part for part in parts if not second_router.same_route(part)], [])
         drawn = [(second_router.row(part[0]), second_router.row(part[1])) for part in parts if not part[2].startswith("refused")]
         counts = [sum(family(*rows) == one for rows in drawn) for one in (TWO_PIN, THREE_PIN, MANY_PIN)]
-        self.assertEqual((counts, len(parts) - len(drawn)), ([760, 341, 146], 26))
+        self.assertEqual((counts, len(parts) - len(drawn)), ([737, 340, 123], 35))
 
     def test_worked_listings(self):
-        parts = self.parts("job3-listings.txt")
+        parts = self.parts("job3-7-listings.txt")
         self.assertEqual([part for part in parts if not second_router.same_listing(part)], [])
-        self.assertEqual((len(parts), sum(part[1].startswith("refused") for part in parts)), (450, 49))
+        self.assertEqual((len(parts), sum(part[1].startswith("refused") for part in parts)), (361, 33))
 
     def test_worked_needs(self):
-        parts = self.parts("job5-before-7-needs.txt")
+        parts = self.parts("job5-needs.txt")
         self.assertEqual([part for part in parts if not second_router.same_need(part)], [])
         numbers = [second_router.figures(line)[1] for part in parts for line in part[3:]]
-        self.assertEqual((len(parts), sum(part[2].startswith("refused") for part in parts)), (1663, 160))
-        self.assertEqual((len(numbers), numbers.count(8), numbers.count(0)), (6798, 2691, 3787))
+        self.assertEqual((len(parts), sum(part[2].startswith("refused") for part in parts)), (1670, 139))
+        self.assertEqual((len(numbers), numbers.count(8), numbers.count(0)), (6882, 2737, 3867))
 
     def test_need_without_added_columns(self):
         top, bottom = [1, 1], [2, 2]  # on 2 tracks in 2 columns, where document 01's formula has 15 entries
@@ -177,9 +177,24 @@ class Routes(unittest.TestCase):
             self.assertEqual(t, 3 * d // 2 if family(top, bottom) == THREE_PIN else 2 * d - 1)
             self.assertLessEqual(w, len(top) + t // 2)
 
+    def test_empty_columns(self):
+        families = [family(*rows) for rows in make_records.EMPTY_COLUMNS]
+        self.assertEqual(families, [TWO_PIN] * 5 + [THREE_PIN] * 6 + [MANY_PIN] * 6)
+        drawn = []
+        for top, bottom in make_records.EMPTY_COLUMNS:
+            _, t, w, layout = route(top, bottom)
+            self.assertEqual(check(top, bottom, w, t, layout), (0, 0, 0, 0))
+            self.assertLessEqual(w, len(top) + t // 2)
+            verticals = [layout[c * (2 * t + 1) : c * (2 * t + 1) + t + 1] for c in range(len(top)) if not top[c] and not bottom[c]]
+            drawn.append((w, [max(column) for column in verticals]))
+        # The widths, and the net that is joined in each empty column.
+        self.assertEqual(drawn[:5], [(7, [1]), (3, [2]), (5, [1]), (6, [1, 5]), (6, [3])])
+        self.assertEqual(drawn[5:11], [(4, [5]), (6, [4, 0]), (7, [3, 0]), (6, [4]), (7, [4]), (10, [0, 4])])
+        self.assertEqual(drawn[11:], [(4, [2]), (5, [0]), (9, [0, 5]), (5, [3]), (7, [2]), (8, [2])])
+
     def test_examples_of_the_rules(self):
         shown = re.findall("```\\n(top.*?\\n)\\n(density.*?)```", (DOCS / "THREE-PIN.md").read_text(), re.DOTALL)
-        self.assertEqual(len(shown), 3)
+        self.assertEqual(len(shown), 4)
         for rows, text in shown:
             self.assertEqual(second_router.listing(channel.record_of_rows(*channel.rows_of_text(rows))), text)
 

@@ -48,7 +48,7 @@ SINGLE = (  # one case of a rule each
     ("3 1 3 5 5 1 2 6 5", "2 0 1 4 3 4 6 4 2"),  # M beside a top net that ends later and moves
     ("9 5 11 2 8 1 8 4 1 11 5 6 2 3 7", "3 7 8 5 7 10 10 9 9 4 3 2 11 6 1"),  # M of two others beside a bottom net that ends before it
     ("4 6 1 4 2 5 3 2 3 2", "3 1 5 5 4 6 1 7 6 7"),  # M beside a top net that ends later; D by number
-    ("1 1 2 0", "2 2 1 0"),  # an extended net, and no pin
+    ("1 1 2 0", "2 2 1 0"),  # an extended net, and no pin: it is joined
     ("2 2 1 3", "0 1 2 3"),  # an extended net, and both pins of a two-pin net
     ("3 3 0 2", "1 1 2 1"),  # D alone, a bottom pin starts
     ("0 2 3 5 1 2 3 6 6 5 7 8", "6 1 7 8 2 8 1 4 5 3 4 4"),  # M beside a top net that ends before it, the free track below its two

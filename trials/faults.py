@@ -14,11 +14,18 @@ import sys
 
 HERE = pathlib.Path(__file__).resolve().parent
 WORK = HERE / "target" / "faults"
-CHANNELS = "10000"
+CHANNELS = "20000"
 
 ROWS, CHECK, REPORT, LIST, ROUTE, RECORD = (f"baseline/src/{x}.rs" for x in ("rows", "check", "report", "list", "route", "record"))
 MANY, THREE = (f"baseline/src/route/{x}.rs" for x in ("many_pin", "three_pin"))
 CALLS = "standin/src/lib.rs"
+
+
+def highest(family):
+    """The fault that an empty column joins the highest-numbered net, in channels of one family."""
+    return f"let last = self.stretched.members().last().filter(|_| self.family == Family::{family});\n" \
+        "        match last.or(self.stretched.lowest()) {"
+
 
 # Label, file, text, text with the fault.
 FAULTS = [
@@ -110,10 +117,59 @@ FAULTS = [
     ("figure on refusal", CALLS, "Routed { number, density: 0", "Routed { number, density: 1"),
     ("entries after the drawing", ROUTE, "        width\n    }",
      "        columns.next().map(|rest| rest.fill(0));\n        width\n    }"),
-    ("unjoined at the end", ROUTE, "self.stretched.lowest()?;",
-     "self.stretched.lowest().filter(|_| self.family == Family::ManyPin)?;"),
-    ("added columns in another order", ROUTE, "self.stretched.lowest()?;",
-     "self.stretched.lowest_but(self.stretched.lowest()?).or(self.stretched.lowest())?;"),
+    ("unjoined at the end", ROUTE, "sweep.stretched.lowest() {",
+     "sweep.stretched.lowest().filter(|_| self.family == Family::ManyPin) {"),
+    ("added columns in another order", ROUTE, "sweep.stretched.lowest() {",
+     "sweep.stretched.lowest().map(|net| sweep.stretched.lowest_but(net).unwrap_or(net)) {"),
+    ("empty column, no net joined", ROUTE, "match self.stretched.lowest() {", "match self.stretched.lowest().filter(|_| false) {"),
+    ("empty column, rule in two-pin channels only", ROUTE, "match self.stretched.lowest() {",
+     "match self.stretched.lowest().filter(|_| self.family == Family::TwoPin) {"),
+    ("empty column, rule not in two-pin channels", ROUTE, "match self.stretched.lowest() {",
+     "match self.stretched.lowest().filter(|_| self.family != Family::TwoPin) {"),
+    ("empty column, rule not in three-pin channels", ROUTE, "match self.stretched.lowest() {",
+     "match self.stretched.lowest().filter(|_| self.family != Family::ThreePin) {"),
+    ("empty column, rule not in many-pin channels", ROUTE, "match self.stretched.lowest() {",
+     "match self.stretched.lowest().filter(|_| self.family != Family::ManyPin) {"),
+    ("empty column, highest number in two-pin channels", ROUTE, "match self.stretched.lowest() {", highest("TwoPin")),
+    ("empty column, highest number in three-pin channels", ROUTE, "match self.stretched.lowest() {", highest("ThreePin")),
+    ("empty column, highest number in many-pin channels", ROUTE, "match self.stretched.lowest() {", highest("ManyPin")),
+    ("empty column, wide net joined", ROUTE, "match self.stretched.lowest() {",
+     "match self.stretched.lowest().or_else(|| self.wide.lowest()) {"),
+    ("empty column, wide net before a stretched one", ROUTE, "match self.stretched.lowest() {",
+     "match self.stretched.lowest().map(|net| self.wide.lowest().unwrap_or(net)) {"),
+    ("empty column, two nets done", ROUTE, "Some(join) => self.join_stretched(join as u16, 0, 0),",
+     "Some(join) => {\n"
+     "                let verticals = self.join_stretched(join as u16, 0, 0);\n"
+     "                self.stretched.lowest().map(|next| self.join_stretched(next as u16, 0, 0));\n"
+     "                verticals\n            }"),
+    ("empty column, joined up to the second strand", ROUTE, "Some(join) => self.join_stretched(join as u16, 0, 0),",
+     "Some(join) => {\n"
+     "                let (low, second) = (self.strands[join].low, self.second(join as u16));\n"
+     "                self.join_stretched(join as u16, 0, 0);\n"
+     "                Three(0, low, join as u16, second, 0)\n            }"),
+    ("empty column, joined net leaves on a track", ROUTE, "Some(join) => self.join_stretched(join as u16, 0, 0),",
+     "Some(join) => {\n"
+     "                let low = self.strands[join].low;\n"
+     "                let verticals = self.join_stretched(join as u16, 0, 0);\n"
+     "                self.add(low, join as u16);\n"
+     "                verticals\n            }"),
+    ("empty column, joined net still stretched", ROUTE, "Some(join) => self.join_stretched(join as u16, 0, 0),",
+     "Some(join) => {\n"
+     "                let verticals = self.join_stretched(join as u16, 0, 0);\n"
+     "                self.stretched.insert(join);\n"
+     "                verticals\n            }"),
+    ("empty column, joined net still double", ROUTE, "Some(join) => self.join_stretched(join as u16, 0, 0),",
+     "Some(join) => self.join_for_pins(join as u16, 0, 0),"),
+    ("empty column, pairs ended", ROUTE, "=> self.empty_column(),",
+     "=> {\n"
+     "                self.mates = [0; 257];\n"
+     "                (1..=256).for_each(|net| self.lone.put(net, self.strands[net].count == 2));\n"
+     "                self.empty_column()\n            }"),
+    ("empty column, drawn straight in the dry run", ROUTE, "for (p, q) in self.columns() {",
+     "for (p, q) in self.columns() {\n"
+     "            if p | q == 0 {\n                sweep.c += 1;\n                continue;\n            }"),
+    ("column with a top pin taken for an empty one", ROUTE, "p | q == 0", "q == 0"),
+    ("column with a bottom pin taken for an empty one", ROUTE, "p | q == 0", "p == 0"),
     ("free tracks exchanged", ROUTE, "self.add(f, q);\n                self.add(g, p);",
      "self.add(g, q);\n                self.add(f, p);"),
     ("free track beside a stretched net", MANY,
@@ -157,7 +213,7 @@ FAULTS = [
      "                let join = self.stretched.lowest().unwrap();\n"
      "                self.join_stretched(join as u16, p, q)\n            }\n"
      "            (Ends, Ends) => self.end_one"),
-    ("a joined net still double", THREE, "        self.mark(join);\n", ""),
+    ("a joined net still double", THREE, "Some(join) => self.join_stretched(", "Some(join) => self.join_for_pins("),
     ("two ending nets, the single one ends", THREE, "(qs.count, p) < (ps.count, q)", "(ps.count, p) < (qs.count, q)"),
     ("two ending nets, the higher number ends", THREE, "(qs.count, p) < (ps.count, q)", "(qs.count, q) < (ps.count, p)"),
     ("two ending nets, the top one ends", THREE, "qs.high < ps.low || top_first", "qs.high < ps.low || top_first || p != 0"),

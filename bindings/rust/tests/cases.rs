@@ -28,6 +28,16 @@ fn channels_to_try() {
 }
 
 #[test]
+fn empty_columns() {
+    // A net is joined where there is no pin, in channels of each sweep: the first is
+    // one column wider than if it ran straight, the others one narrower.
+    assert_eq!(routed(&[3, 1, 2, 0, 4, 4], &[2, 0, 1, 0, 0, 3]), Ok((3, 3, 7)));
+    assert_eq!(routed(&[2, 4, 0], &[4, 2, 0]), Ok((2, 2, 3)));
+    assert_eq!(routed(&[4, 4, 5, 0], &[5, 0, 4, 0]), Ok((2, 3, 4)));
+    assert_eq!(routed(&[1, 2, 1, 0], &[0, 2, 2, 0]), Ok((2, 3, 4)));
+}
+
+#[test]
 fn slice_of_case_d() {
     let mut short = [9; 14];
     assert_eq!(route(&[1, 2], &[2, 1], &mut short), Err(Refusal::LayoutTooShort));

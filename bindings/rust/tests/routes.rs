@@ -1,5 +1,5 @@
-//! The library on the worked routes and listings, `tools/cases/job3-*.txt`, and on
-//! the worked needs, `tools/cases/job5-before-7-needs.txt`.
+//! The library on the worked routes and listings, `tools/cases/job3-7-*.txt`, and on
+//! the worked needs, `tools/cases/job5-needs.txt`.
 
 mod worked;
 
@@ -67,8 +67,8 @@ fn worked_routes() {
         Some(number) => refused(case, number),
         None => drawn(case),
     };
-    let text = include_str!("../../../tools/cases/job3-routes.txt");
-    assert_eq!(cases(text).map(tried).count(), 1273);
+    let text = include_str!("../../../tools/cases/job3-7-routes.txt");
+    assert_eq!(cases(text).map(tried).count(), 1235);
 }
 
 /// Sees that need and routing answer as worked out, and that an accepted drawing is
@@ -90,9 +90,9 @@ fn needed(case: &str) {
 
 #[test]
 fn worked_needs() {
-    let text = include_str!("../../../tools/cases/job5-before-7-needs.txt");
-    assert_eq!(cases(text).map(needed).count(), 1663);
-    assert_eq!(cases(text).flat_map(|case| lines(case, "slice")).count(), 6798);
+    let text = include_str!("../../../tools/cases/job5-needs.txt");
+    assert_eq!(cases(text).map(needed).count(), 1670);
+    assert_eq!(cases(text).flat_map(|case| lines(case, "slice")).count(), 6882);
 }
 
 #[test]
@@ -102,6 +102,6 @@ fn worked_listings() {
         let listing = refusal(case).map_or_else(|| Ok(format!("{text}\n")), Err);
         assert_eq!(list(&bytes(case, "record").unwrap()), listing, "{case}");
     };
-    let text = include_str!("../../../tools/cases/job3-listings.txt");
-    assert_eq!(cases(text).map(tried).count(), 450);
+    let text = include_str!("../../../tools/cases/job3-7-listings.txt");
+    assert_eq!(cases(text).map(tried).count(), 361);
 }

@@ -63,7 +63,8 @@ impl<'a> Channel<'a> {
             sweep.draw(column, verticals);
         }
         let mut width = self.top.len();
-        while let Some(verticals) = sweep.join_last() {
+        while let Some(join) = sweep.stretched.lowest() {
+            let verticals = sweep.join_stretched(join as u16, 0, 0);
             sweep.draw(columns.next().unwrap(), verticals);
             width += 1;
         }
@@ -244,6 +245,12 @@ impl<'a> Sweep<'a> {
         Three(q, s.low, join, s.high, p)
     }
 
+    /// Joins a stretched net, which then is no double one.
+    fn join_stretched(&mut self, join: u16, p: u16, q: u16) -> Verticals {
+        self.lone.remove(join as usize);
+        self.join_for_pins(join, p, q)
+    }
+
     fn end_top(&mut self, p: u16, q: u16) -> Verticals {
         let low = self.strands[p as usize].low;
         self.drop_net(p);
@@ -329,6 +336,7 @@ impl<'a> Sweep<'a> {
     #[inline(always)]
     fn step(&mut self, p: u16, q: u16) -> Verticals {
         let verticals = match self.family {
+            _ if p | q == 0 => self.empty_column(),
             Family::TwoPin => self.two_pin(p, q),
             Family::ThreePin => self.three_pin(p, q),
             Family::ManyPin => self.many_pin(p, q),
@@ -339,13 +347,12 @@ impl<'a> Sweep<'a> {
         verticals
     }
 
-    /// Joins the lowest-numbered stretched net, if there is one.
-    fn join_last(&mut self) -> Option<Verticals> {
-        let net = self.stretched.lowest()?;
-        let Strands { low, high, .. } = self.strands[net];
-        self.drop_net(net as u16);
-        self.stretched.remove(net);
-        Some(Three(0, low, net as u16, high, 0))
+    /// A column without pins: the lowest-numbered stretched net is joined.
+    fn empty_column(&mut self) -> Verticals {
+        match self.stretched.lowest() {
+            Some(join) => self.join_stretched(join as u16, 0, 0),
+            None => Three(0, 0, 0, 0, 0),
+        }
     }
 }
 

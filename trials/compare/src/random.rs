@@ -87,7 +87,8 @@ fn numbers(rng: &mut Rng, most: usize) -> Vec<u16> {
     numbers
 }
 
-/// A channel that is not refused, of one of eight families.
+/// A channel that is not refused, of one of eight families, some with more empty
+/// columns.
 pub fn any(rng: &mut Rng) -> Channel {
     let n = columns(rng);
     let mut slots = vec![0; 2 * n];
@@ -112,6 +113,9 @@ pub fn any(rng: &mut Rng) -> Channel {
         _ => pairs(rng, &mut slots),
     }
     mend(rng, &mut slots);
+    if rng.percent(40) {
+        add_empty_columns(rng, &mut slots);
+    }
     let top = slots.iter().step_by(2).copied().collect();
     let bottom = slots.iter().skip(1).step_by(2).copied().collect();
     Channel { top, bottom }
@@ -291,5 +295,14 @@ fn mend(rng: &mut Rng, slots: &mut [u16]) {
             None => slots[i] = 0,
         }
         pins[net] = 2;
+    }
+}
+
+/// Puts empty columns between the others, up to 256 in all.
+fn add_empty_columns(rng: &mut Rng, slots: &mut Vec<u16>) {
+    for _ in 0..rng.from(1, 1 + slots.len() / 4) {
+        let at = 2 * rng.from(0, slots.len() / 2);
+        let columns = rng.from(1, 2).min(256 - slots.len() / 2);
+        slots.splice(at..at, vec![0; 2 * columns]);
     }
 }

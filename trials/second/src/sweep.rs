@@ -62,15 +62,15 @@ pub fn draw(top: &[u16], bottom: &[u16], nets: &Nets) -> (Figures, Vec<u16>) {
     let mut sweep = Sweep::new(nets, tracks);
     for (&top, &bottom) in top.iter().zip(bottom) {
         match family {
+            _ if top == 0 && bottom == 0 => sweep.empty_column(),
             Family::TwoPin => sweep.two_pin_column(top, bottom),
             Family::ThreePin => sweep.three_pin_column(top, bottom),
             Family::ManyPin => sweep.many_pin_column(top, bottom),
         }
         sweep.close_column();
     }
-    while let Some(net) = sweep.stretched() {
-        sweep.join(net);
-        sweep.drop(net);
+    while sweep.stretched().is_some() {
+        sweep.empty_column();
         sweep.close_column();
     }
     let width = sweep.c - 1;
@@ -198,6 +198,14 @@ impl<'a> Sweep<'a> {
     }
 
     // What the sweeps share.
+
+    /// A column without pins: the lowest-numbered stretched net is joined.
+    fn empty_column(&mut self) {
+        if let Some(net) = self.stretched() {
+            self.join(net);
+            self.drop(net);
+        }
+    }
 
     /// One or two starting pins on free tracks, the top one higher.
     fn start_on_free(&mut self, top: u16, bottom: u16) {

@@ -22,9 +22,6 @@ impl Sweep<'_> {
 
     pub(super) fn many_pin(&mut self, p: u16, q: u16) -> Verticals {
         use Kind::*;
-        if p == 0 && q == 0 {
-            return Three(0, 0, 0, 0, 0);
-        }
         let join = self.stretched.lowest().or_else(|| self.wide.lowest());
         if p == q {
             return self.both_pins(p, join);

@@ -5,9 +5,6 @@ use std::cmp::Reverse;
 
 impl Sweep<'_> {
     pub(super) fn three_pin(&mut self, p: u16, q: u16) -> Verticals {
-        if p == 0 && q == 0 {
-            return Three(0, 0, 0, 0, 0);
-        }
         let verticals = if p == q { self.full(p) } else { self.pins_of_two(p, q) };
         self.settle(p);
         self.settle(q);
@@ -54,12 +51,6 @@ impl Sweep<'_> {
         } else {
             self.end_bottom(p, q)
         }
-    }
-
-    fn join_stretched(&mut self, join: u16, p: u16, q: u16) -> Verticals {
-        let verticals = self.join_for_pins(join, p, q);
-        self.mark(join);
-        verticals
     }
 
     /// The net that ends earlier gets a second strand.

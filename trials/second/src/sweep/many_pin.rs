@@ -4,11 +4,11 @@
 use super::{Kind, Sweep};
 
 impl Sweep<'_> {
-    /// A column of a channel with a net of three or more pins.
+    /// A column with pins, of a channel with a net of three or more.
     pub(super) fn many_pin_column(&mut self, top: u16, bottom: u16) {
         use Kind::*;
         if top == bottom {
-            return self.one_net_or_none(top);
+            return self.one_net(top);
         }
         if self.relieve(top, bottom) {
             return;
@@ -29,11 +29,8 @@ impl Sweep<'_> {
         }
     }
 
-    /// Rule 1 of many-pin channels.
-    fn one_net_or_none(&mut self, net: u16) {
-        if net == 0 {
-            return;
-        }
+    /// Rule 1 of many-pin channels: both pins of one net.
+    fn one_net(&mut self, net: u16) {
         let strands = self.strands(net);
         if !strands.is_empty() || self.nets.pins(net) == 2 {
             self.rise(net, 0, self.t + 1);

@@ -4,11 +4,11 @@
 use super::{Kind, Sweep};
 
 impl Sweep<'_> {
-    /// A column of a channel of nets with two or three pins.
+    /// A column with pins, of a channel of nets with two or three.
     pub(super) fn three_pin_column(&mut self, top: u16, bottom: u16) {
         if top != bottom {
             self.two_nets(top, bottom);
-        } else if top != 0 {
+        } else {
             // Rule 1.
             self.rise(top, 0, self.t + 1);
             self.drop(top);

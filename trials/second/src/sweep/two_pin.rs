@@ -3,15 +3,12 @@
 use super::{Kind, Sweep};
 
 impl Sweep<'_> {
-    /// A column of a channel whose nets have two pins each.
+    /// A column with pins, of a channel whose nets have two pins each.
     pub(super) fn two_pin_column(&mut self, top: u16, bottom: u16) {
         use Kind::*;
         // Rule 1.
         if top == bottom {
-            if top != 0 {
-                self.rise(top, 0, self.t + 1);
-            }
-            return;
+            return self.rise(top, 0, self.t + 1);
         }
         match (self.kind(top), self.kind(bottom)) {
             // Rule 2.
