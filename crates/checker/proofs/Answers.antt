@@ -24,11 +24,12 @@ use Rattle.grid.proofs.Answers as answers
 use Rattle.checker.specs.declared.Checked.{Checked}
 use Rattle.checker.specs.declared.Checked.the-variants.{Passed}
 use Rattle.checker.specs.Check.{numberOf, placeOf, faultColumn, faultRow, checkedBy, least, some, strange, mispinned, leavesLast, split, looseNet}
-use Rattle.checker.specs.Check.{entriesRefused, drawingRefused, refused, place, column, row, checked}
+use Rattle.checker.specs.Check.{pinFault, firstMispinned, entriesRefused, drawingRefused, refused, place, column, row, checked}
 use Rattle.checker.specs.declared.ends.Loose.{Loose}
 use Rattle.checker.specs.Working.{refusedAt, answerWith, entriesChecked, drawingChecked, PinTable, Within, refusedLoose, LowestLoose}
 use Rattle.checker.proofs.Least.{least-all}
 use Rattle.checker.proofs.entries.Nets.{strange-not}
+use Rattle.checker.proofs.Terminals.{PinFault, is-14, is-19, is-20, pinFaultBy}
 
 -- the numbers of an answer made of them, where all are 0 on acceptance
 made-of :
@@ -38,20 +39,31 @@ made-of zero p c r z = let (a, b, d) = z refl in (refl, sym a, sym b, sym d)
 made-of (suc k) p c r z = (refl, refl, refl, refl)
 
 module _ (top bottom : List ℕ) (w t : ℕ) (D : List ℕ) where
-  -- only 13 to 17 have a place
-  pub no-place-else : (k : ℕ) → (k < 13) ⊎ (17 < k) → place top bottom w t D k ≡ 0
+  -- only 13 to 17, 19 and 20 have a place
+  pub no-place-else : (k : ℕ) → (k < 13) ⊎ ((k ≡ 18) ⊎ (20 < k)) → place top bottom w t D k ≡ 0
   unfolding place
   no-place-else k o =
       rw (
-        ne-eqb k 13 (apart 13 (omega arith) (omega arith)),
-        ne-eqb k 14 (apart 14 (omega arith) (omega arith)),
-        ne-eqb k 15 (apart 15 (omega arith) (omega arith)),
-        ne-eqb k 16 (apart 16 (omega arith) (omega arith)),
-        ne-eqb k 17 (apart 17 (omega arith) (omega arith)),
+        ne-eqb k 13 (apart 13 (omega arith) (omega arith) (omega arith)),
+        ne-eqb k 14 (apart 14 (omega arith) (omega arith) (omega arith)),
+        ne-eqb k 19 (apart 19 (omega arith) (omega arith) (omega arith)),
+        ne-eqb k 20 (apart 20 (omega arith) (omega arith) (omega arith)),
+        ne-eqb k 15 (apart 15 (omega arith) (omega arith) (omega arith)),
+        ne-eqb k 16 (apart 16 (omega arith) (omega arith) (omega arith)),
+        ne-eqb k 17 (apart 17 (omega arith) (omega arith) (omega arith)),
       )
     where
-      apart : (j : ℕ) → 13 ≤ j → j ≤ 17 → k ≢ j
-      apart j a b e = ⊎-elim (λ (l : k < 13). omega (arith, e)) (λ (l : 17 < k). omega (arith, e)) o
+      apart : (j : ℕ) → 13 ≤ j → j ≤ 20 → j ≢ 18 → k ≢ j
+      apart j a b n e =
+          ⊎-elim (λ (l : k < 13). omega (arith, e))
+          (λ (h : (k ≡ 18) ⊎ (20 < k)). ⊎-elim (λ (i : k ≡ 18). omega (arith, e, i)) (λ (l : 20 < k). omega (arith, e)) h) o
+
+  -- the three numbers of a wrong pin edge have one place
+  pub fault-place : (k : ℕ) → PinFault k → place top bottom w t D k ≡ firstMispinned top bottom t D
+  unfolding place
+  fault-place k is-14 = refl
+  fault-place k is-19 = refl
+  fault-place k is-20 = refl
 
   -- only 17 has a column and a row
   pub no-point-else : (k : ℕ) → k ≢ 17 → (column top bottom w t D k ≡ 0) × (row top bottom w t D k ≡ 0)
@@ -99,6 +111,13 @@ module _ (top bottom : List ℕ) (w t : ℕ) (D : List ℕ) where
       (k n p : ℕ) (r : Checked) → k ≢ 16 → n ≡ suc k → p ≡ place top bottom w t D (suc k) → r ≡ refusedAt (suc k) p
       → r ≡ answerWith top bottom w t D n
   at-place k n p r o e q is = same-answer (suc k) n r e (is ∙ rw (q, no-point-else (suc k) (omega arith) .0, no-point-else (suc k) (omega arith) .1))
+
+  -- one of a wrong pin edge
+  at-fault :
+      (k n p : ℕ) (r : Checked) → PinFault k → n ≡ k → p ≡ firstMispinned top bottom t D → r ≡ refusedAt k p → r ≡ answerWith top bottom w t D n
+  at-fault k n p r is-14 e q is = at-place 13 n p r (omega arith) e (q ∙ sym (fault-place 14 is-14)) is
+  at-fault k n p r is-19 e q is = at-place 18 n p r (omega arith) e (q ∙ sym (fault-place 19 is-19)) is
+  at-fault k n p r is-20 e q is = at-place 19 n p r (omega arith) e (q ∙ sym (fault-place 20 is-20)) is
 
   -- one with the place 0
   no-place : (k n : ℕ) (r : Checked) → k ≤ 11 → n ≡ suc k → r ≡ refusedAt (suc k) 0 → r ≡ answerWith top bottom w t D n
@@ -176,15 +195,15 @@ module _ (top bottom : List ℕ) (w t : ℕ) (D : List ℕ) (e : ℕ) (x : e ≡
     no-entry = none-found (length D) (strange top bottom D) e x e′
 
     module _ (p : ℕ) (y : p ≡ least (length D) (mispinned top bottom t D)) where
-      -- 14
-      pub pin-at : (r : Checked) → p < length D → r ≡ refusedAt 14 p → r ≡ entriesChecked top bottom w t D
-      unfolding entriesRefused place
-      pin-at r l is =
-          at-place top bottom w t D 13 (entriesRefused top bottom w t D) p r (omega arith)
-          (rw (no-entry, some-found (length D) (mispinned top bottom t D) p y l)) y is
+      -- 14, 19 or 20
+      pub pin-at : (k : ℕ) (r : Checked) → p < length D → k ≡ pinFault top bottom t D p → r ≡ refusedAt k p → r ≡ entriesChecked top bottom w t D
+      unfolding entriesRefused
+      pin-at k r l f is =
+          at-fault top bottom w t D k (entriesRefused top bottom w t D) p r (rw f (pinFaultBy top bottom t D p))
+          (rw (no-entry, some-found (length D) (mispinned top bottom t D) p y l, ← y, f)) y is
 
       module _ (p′ : length D ≤ p) (q : ℕ) (z : q ≡ least (length D) (leavesLast w t D)) where
-        -- past 14
+        -- past these
         no-pin : some (length D) (mispinned top bottom t D) ≡ false
         no-pin = none-found (length D) (mispinned top bottom t D) p y p′
 

@@ -16,7 +16,7 @@ use Rattle.grid.proofs.Answers.{first-past}
 use Rattle.grid.proofs.Rows.{RowsFit, rows-fit}
 use Rattle.checker.specs.declared.Checked.the-variants.{Passed}
 use Rattle.checker.specs.Check.{numberOf, some, wrongWidth, manyTracks, wrongSize, strange, mispinned, leavesLast, split, looseNet}
-use Rattle.checker.specs.Check.{entriesRefused, drawingRefused, refused, checked}
+use Rattle.checker.specs.Check.{pinFault, firstMispinned, entriesRefused, drawingRefused, refused, checked}
 use Rattle.checker.specs.Working.{answerWith}
 use Rattle.pieces.specs.Labels.{netOf, leftFrom}
 use Rattle.grid.proofs.Drawings.Flat.{vert-at, horz-at, horz-out}
@@ -27,6 +27,7 @@ use Rattle.checker.proofs.Least.{none-of, of-none}
 use Rattle.checker.proofs.entries.Nets.{strange-not, not-strange}
 use Rattle.checker.proofs.Limits.{column-below}
 use Rattle.checker.proofs.entries.Pins.{pinned-at, at-pinned}
+use Rattle.checker.proofs.Terminals.{fault-not-zero}
 use Rattle.checker.proofs.entries.Last.{last-zero, zero-last}
 use Rattle.checker.proofs.counting.Splits.{split-not, not-split}
 use Rattle.checker.proofs.ends.Tests.{not-loose, loose-not, no-loose, loose-none, edges-at}
@@ -61,7 +62,7 @@ zero-fine top bottom w t D e =
     let (f₂, e₂) = pick-past _ 11 _ 0 (positive 10) e₁ in
     let (f₃, e₃) = pick-past _ 12 _ 0 (positive 11) e₂ in
     let (f₄, e₄) = pick-past _ 13 _ 0 (positive 12) e₃ in
-    let (f₅, e₅) = pick-past _ 14 _ 0 (positive 13) e₄ in
+    let (f₅, e₅) = pick-past _ (pinFault top bottom t D (firstMispinned top bottom t D)) _ 0 (fault-not-zero top bottom t D _) e₄ in
     let (f₆, e₆) = pick-past _ 15 _ 0 (positive 14) e₅ in
     let (f₇, e₇) = pick-past _ 16 _ 0 (positive 15) e₆ in
     let (f₈, e₈) = pick-past _ 17 _ 0 (positive 16) e₇ in

@@ -1,22 +1,24 @@
--- The checker's tests of refusals 13 to 17 in the words of `Faults`: what each says of an entry's position, or of a net. Assumes nothing.
+-- The checker's tests of refusals 13 to 17, 19 and 20 in the words of `Faults`: what each says of an entry's position, or of a net. Assumes nothing.
 use Prim.Native.Nat.{ℕ, suc, _+_, _*_, _-_, _/_, _%_, _≤_, _<_}
 use mathlib.Core.Path.{_≡_, refl, sym, _∙_, ap}
-use mathlib.Core.Logic.{_≢_, _↔_, _⊎_, inl, inr, ⊎-elim}
+use mathlib.Core.Logic.{_≢_, _↔_, _⊎_, inl, inr, ⊎-elim, by-cases}
 use mathlib.Core.Bool.{true, not, _&&_}
 use mathlib.Core.List.{List}
 use lib.ListN.{length, getD}
 use lib.Dec.{eqb, ltb}
 use native.Mathlib.Omega.{arith}
+use native.Mathlib.Decide.{ℕ-discrete}
 use native.Mathlib.Nat.{mod-lt, div-add-mod'}
 use Rattle.grid.specs.Channel.{pins}
 use Rattle.grid.specs.Grid.{verticalOf, horizontalOf}
 use Rattle.grid.proofs.Tests.{eq-eqb, ne-eqb, eqb-true, eqb-false, ltb-true, not-true, and-true, not-both}
-use Rattle.checker.specs.Faults.{Strange, PinWrong, LeavesLast, Split, LooseEnd, FirstLoose}
-use Rattle.checker.specs.Check.{strange, mispinned, leavesLast, split, looseAt, looseIn, looseNet, looseColumn, looseTrack}
+use Rattle.checker.specs.Faults.{Strange, PinWrong, FaultAt, LeavesLast, Split, LooseEnd, FirstLoose}
+use Rattle.checker.specs.Check.{strange, mispinned, terminalFault, pinFault, leavesLast, split, looseAt, looseIn, looseNet, looseColumn, looseTrack}
 use Rattle.pieces.specs.Labels.{netOf}
 use Rattle.grid.proofs.Drawings.Flat.{vert-at, horz-at}
 use Rattle.checker.proofs.Limits.{column-below}
 use Rattle.checker.proofs.entries.Pins.{pin-low, pin-high, wrong-pin}
+use Rattle.checker.proofs.Terminals.{FaultNumber, bottom-fault, top-fault, pin-fault-of}
 use Rattle.checker.proofs.entries.Last.{last-edge-in}
 use Rattle.checker.proofs.counting.Splits.{not-split, is-split}
 use Rattle.checker.proofs.Least.{some-of, least-is}
@@ -31,7 +33,7 @@ strange-at top bottom D p = (
   λ (n, z). rw (ne-eqb (getD D p 0) 0 n, eq-eqb (pins top bottom (getD D p 0)) 0 z),
 )
 
--- 14
+-- 14, 19 and 20: a wrong pin edge
 module _ (top bottom : List ℕ) (w t : ℕ) (D : List ℕ) (p : ℕ) where
   pub pin-wrong-at : length D ≡ w * (2 * t + 1) → p < length D → (mispinned top bottom t D p ≡ true) ↔ PinWrong top bottom w t D p
   pin-wrong-at size l = (λ h. there h, λ (x, k, c). back x c)
@@ -57,6 +59,52 @@ module _ (top bottom : List ℕ) (w t : ℕ) (D : List ℕ) (p : ℕ) where
           → mispinned top bottom t D p ≡ true
       back x (inl (e, n)) = pin-low top bottom t D x p e (λ z. n (vert-at D t x 0 (omega arith) ∙ ap (netOf D) (omega arith) ∙ z))
       back x (inr (e, n)) = rw e (pin-high top bottom t D x (x * (2 * t + 1)) refl (λ z. n (vert-at D t x t (omega arith) ∙ z)))
+
+-- its number: that of the terminal which is compared there
+module _ (top bottom : List ℕ) (w t : ℕ) (D : List ℕ) (p : ℕ) where
+  module _ (x : ℕ) where
+    of-bottom : p ≡ x * (2 * t + 1) → verticalOf D t x 0 ≢ getD bottom x 0 → pinFault top bottom t D p ≡ terminalFault bottom x (verticalOf D t x 0)
+    of-bottom e n =
+        let v : getD D p 0 ≡ verticalOf D t x 0 = ap (netOf D) (omega arith) ∙ sym (vert-at D t x 0 (omega arith)) in
+        pin-fault-of top bottom t D p x 0 (omega arith) (omega arith)
+        ∙ bottom-fault top bottom x 0 (getD D p 0) refl (λ z. n (sym v ∙ z))
+        ∙ ap (terminalFault bottom x) v
+
+    of-top :
+        p ≡ x * (2 * t + 1) + t → (t ≡ 0 → verticalOf D t x 0 ≡ getD bottom x 0)
+        → pinFault top bottom t D p ≡ terminalFault top x (verticalOf D t x t)
+    of-top e b =
+        let v : getD D p 0 ≡ verticalOf D t x t = ap (netOf D) e ∙ sym (vert-at D t x t (omega arith)) in
+        pin-fault-of top bottom t D p x t (omega arith) e
+        ∙ top-fault top bottom x t (getD D p 0) (λ z. v ∙ ap (verticalOf D t x) z ∙ b z)
+        ∙ ap (terminalFault top x) v
+
+  -- and its fault in words
+  module _ {Fault : (row : List ℕ) (x e : ℕ) → Type 0} {n : ℕ} (F : FaultNumber Fault n) where
+    pub fault-number : FaultAt Fault top bottom w t D p → pinFault top bottom t D p ≡ n
+    fault-number (x, l, inl (e, f)) = of-bottom x e (F .wrong bottom x _ f) ∙ F .number bottom x _ f
+    fault-number (x, l, inr (e, f, b)) = of-top x e b ∙ F .number top x _ f
+
+    pub fault-words : PinWrong top bottom w t D p → pinFault top bottom t D p ≡ n → FaultAt Fault top bottom w t D p
+    fault-words (x, l, c) k = (x, l, there c)
+      where
+        low : p ≡ x * (2 * t + 1) → verticalOf D t x 0 ≢ getD bottom x 0 → Fault bottom x (verticalOf D t x 0)
+        low e m = F .words bottom x _ m (sym (of-bottom x e m) ∙ k)
+
+        there :
+            ((p ≡ x * (2 * t + 1)) × (verticalOf D t x 0 ≢ getD bottom x 0)) ⊎ ((p ≡ x * (2 * t + 1) + t) × (verticalOf D t x t ≢ getD top x 0))
+            → ((p ≡ x * (2 * t + 1)) × Fault bottom x (verticalOf D t x 0))
+            ⊎ ((p ≡ x * (2 * t + 1) + t) × Fault top x (verticalOf D t x t) × (t ≡ 0 → verticalOf D t x 0 ≡ getD bottom x 0))
+        there (inl (e, m)) = inl (e, low e m)
+        there (inr (e, m)) =
+            by-cases (ℕ-discrete t 0)
+            (λ z.
+            by-cases (ℕ-discrete (verticalOf D t x 0) (getD bottom x 0)) (λ b. inr (e, high e m (λ y. b), λ y. b)) (λ b. inl (omega arith, low (omega arith) b)))
+            (λ z. inr (e, high e m (λ y. absurd (z y)), λ y. absurd (z y)))
+          where
+            high :
+                p ≡ x * (2 * t + 1) + t → verticalOf D t x t ≢ getD top x 0 → (t ≡ 0 → verticalOf D t x 0 ≡ getD bottom x 0) → Fault top x (verticalOf D t x t)
+            high e m b = F .words top x _ m (sym (of-top x e b) ∙ k)
 
 -- 15
 pub leaves-last-at : (w t : ℕ) (D : List ℕ) (p : ℕ) → (leavesLast w t D p ≡ true) ↔ LeavesLast w t D p

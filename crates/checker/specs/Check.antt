@@ -1,6 +1,6 @@
--- Document 01, "Refused, by place", and document 02, Job 1: the checker's number, "Checked from the top down", its place, column and row, for the rows,
--- the width w, the number of tracks t and the lent layout D. A position p is counted from 0; it lies in column p / (2t + 1), counted from 0, and is entry
--- p % (2t + 1) of it.
+-- Document 01, "Refused, by place", and document 02, Jobs 1 and 8: the checker's number, "Checked from the top down", its place, column and row, for the
+-- rows, the width w, the number of tracks t and the lent layout D. A position p is counted from 0; it lies in column p / (2t + 1), counted from 0, and is
+-- entry p % (2t + 1) of it.
 use Prim.Native.Nat.{ℕ, zero, suc, _+_, _*_, _/_, _%_}
 use mathlib.Core.Bool.{Bool, true, false, not, _&&_, _||_}
 use mathlib.Core.List.{List}
@@ -67,8 +67,8 @@ wrongSize w t D = not (eqb (length D) (w * (2 * t + 1)))
 abbrev pub strange : (top bottom D : List ℕ) (p : ℕ) → Bool
 strange top bottom D p = not (eqb (getD D p 0) 0) && eqb (pins top bottom (getD D p 0)) 0
 
--- 14: "pin edge wrong": an entry e, number i of a column with pins a and b, is the column's last vertical entry and not its top pin a, or its first and
--- not its bottom pin b
+-- 14, 19 and 20: "pin edge wrong": an entry e, number i of a column with pins a and b, is the column's last vertical entry and not its top pin a, or its
+-- first and not its bottom pin b
 abbrev pub pinWrong : (t a b e i : ℕ) → Bool
 pinWrong t a b e i = (eqb i 0 && not (eqb e b)) || (eqb i t && not (eqb e a))
 
@@ -76,6 +76,23 @@ pinWrong t a b e i = (eqb i 0 && not (eqb e b)) || (eqb i t && not (eqb e a))
 abbrev pub mispinned : (top bottom : List ℕ) (t : ℕ) (D : List ℕ) (p : ℕ) → Bool
 mispinned top bottom t D p =
     pinWrong t (getD top (p / (2 * t + 1)) 0) (getD bottom (p / (2 * t + 1)) 0) (getD D p 0) (p % (2 * t + 1))
+
+-- the number of a wrong edge e at the terminal of column x, counted from 0, in a row of pins: 14 for "a pin whose edge is 0", "19: the edge of a pin
+-- carries another net", "20: a wire at a terminal without a pin, or at either edge past column n"
+abbrev pub terminalFault : (row : List ℕ) (x e : ℕ) → ℕ
+terminalFault row x e = pick (ltb x (length row) && not (eqb (getD row x 0) 0)) (pick (eqb e 0) 14 19) 20
+
+-- of a wrong entry e, number i of column x: "With t = 0 the bottom pin is compared first, then the top."
+abbrev pub columnFault : (top bottom : List ℕ) (x i e : ℕ) → ℕ
+columnFault top bottom x i e = pick (eqb i 0 && not (eqb e (getD bottom x 0))) (terminalFault bottom x e) (terminalFault top x e)
+
+-- at position p: "its fault chooses the number"
+unfoldable pub pinFault : (top bottom : List ℕ) (t : ℕ) (D : List ℕ) (p : ℕ) → ℕ
+pinFault top bottom t D p = columnFault top bottom (p / (2 * t + 1)) (p % (2 * t + 1)) (getD D p 0)
+
+-- "The lowest faulty position"
+abbrev pub firstMispinned : (top bottom : List ℕ) (t : ℕ) (D : List ℕ) → ℕ
+firstMispinned top bottom t D = least (length D) (mispinned top bottom t D)
 
 -- 15: "horizontal edge in the last column": an entry e, number i of column x, lies in the last column after the vertical entries and is an edge
 abbrev pub lastEdge : (w t x i e : ℕ) → Bool
@@ -117,17 +134,18 @@ looseTrack w t D N = least t (looseAt t D N (looseColumn w t D N))
 
 -- WHAT IT ANSWERS
 module _ (top bottom : List ℕ) (w t : ℕ) (D : List ℕ) where
-  -- the number, "Checked from the top down": of the entries, the pieces and the ends, 13 to 17; "17: … checked after 16"
+  -- the number, "Checked from the top down": of the entries, the pieces and the ends, 13 to 17, 19 and 20; "17: … checked after 16", "19: …;
+  -- 20: …; both stand with 14, before 15"
   unfoldable pub entriesRefused : ℕ
   entriesRefused =
       pick (some (length D) (strange top bottom D)) 13
-      (pick (some (length D) (mispinned top bottom t D)) 14
+      (pick (some (length D) (mispinned top bottom t D)) (pinFault top bottom t D (firstMispinned top bottom t D))
       (pick (some (length D) (leavesLast w t D)) 15
       (pick (some 257 (split t D)) 16
       (pick (some 257 (looseNet w t D)) 17
       0))))
 
-  -- of the drawing, 10 to 17
+  -- of the drawing, 10 to 17, 19 and 20
   unfoldable pub drawingRefused : ℕ
   drawingRefused =
       pick (wrongWidth top w) 10
@@ -140,11 +158,11 @@ module _ (top bottom : List ℕ) (w t : ℕ) (D : List ℕ) where
   refused = firstRefusal (rowsRefused top bottom 256) drawingRefused
 
   -- the place that goes with a number: "For 13 to 15 the checker adds the lowest entry position, from 0; for 16 the lowest net number; its place is 0
-  -- otherwise."; for 17 "The place is the lowest net number with a loose end"
+  -- otherwise."; for 17 "The place is the lowest net number with a loose end"; for 19 and 20 as for 14, "The lowest faulty position is still reported"
   unfoldable pub place : (number : ℕ) → ℕ
   place k =
       pick (eqb k 13) (least (length D) (strange top bottom D))
-      (pick (eqb k 14) (least (length D) (mispinned top bottom t D))
+      (pick (eqb k 14 || (eqb k 19 || eqb k 20)) (firstMispinned top bottom t D)
       (pick (eqb k 15) (least (length D) (leavesLast w t D))
       (pick (eqb k 16) (least 257 (split t D))
       (pick (eqb k 17) (least 257 (looseNet w t D))

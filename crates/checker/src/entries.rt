@@ -1,10 +1,10 @@
-// Tests of single entries: refusals 13 to 15.
+// Tests of single entries: refusals 13 to 15, with 19 and 20, which stand with 14.
 ghost use mathlib.Core.Path.{_≡_};
 ghost use mathlib.Core.Bool.{true, false};
 ghost use Prim.Native.Nat.{ℕ, _+_, _*_, _-_, _≤_, _<_};
 ghost use lib.ListN.{length, getD};
 ghost use Rattle.grid.specs.Channel.{over};
-ghost use Rattle.checker.specs.Check.{least, strange, mispinned, leavesLast};
+ghost use Rattle.checker.specs.Check.{least, strange, mispinned, terminalFault, pinFault, leavesLast};
 ghost use Rattle.checker.specs.Working.{PinTable, unknown, AllKnown, KnownMarks};
 
 // An entry, 0 past the end.
@@ -118,6 +118,38 @@ pub(crate) fn find_pin(top: &[u16], bottom: &[u16], w: usize, t: usize, layout: 
         x += 1;
     }
     layout.len()
+}
+
+// The number of a wrong edge at the terminal of column x, counted from 0, in a row of pins.
+fn terminal_fault(row: &[u16], x: usize, edge: u16) -> u16
+    ensures { λ r. ⌜ r ≡ terminalFault (now (row .entry)) x edge ⌝ }
+{
+    if row.len() <= x {
+        return 20;
+    }
+    if row[x] == 0 {
+        20
+    } else if edge == 0 {
+        14
+    } else {
+        19
+    }
+}
+
+// The number of a wrong pin entry at position p. Without tracks it belongs to both terminals of its column, and the bottom pin is compared first.
+pub(crate) fn pin_fault(top: &[u16], bottom: &[u16], t: usize, layout: &[u16], p: usize) -> u16
+    requires { ⌜ t ≤ 511 ⌝ }
+    ensures { λ r. ⌜ r ≡ pinFault (now (top .entry)) (now (bottom .entry)) t (now (layout .entry)) p ⌝ }
+{
+    let s = 2 * t + 1;
+    let x = p / s;
+    let i = p % s;
+    let edge = entry(layout, p);
+    let pin = entry(bottom, x);
+    if (i == 0) & (edge != pin) {
+        return terminal_fault(bottom, x, edge);
+    }
+    terminal_fault(top, x, edge)
 }
 
 // n - t, or 0.

@@ -12,8 +12,8 @@ ghost use lib.ListN.{length};
 ghost use Rattle.checker.specs.Check.{numberOf, placeOf, faultColumn, faultRow, refused, place, column, row, checked};
 ghost use Rattle.checker.specs.Working.{refusedAt, entriesChecked, drawingChecked, PinTable, refusedLoose};
 
-// The number of a refusal, and its place: of 13 to 15 the lowest entry position, from 0, of 16 and 17 the lowest net number, else 0. Of 17 also the column
-// and row of that net's first loose end, counted from 1, else 0.
+// The number of a refusal, and its place: of 13 to 15, 19 and 20 the lowest entry position, from 0, of 16 and 17 the lowest net number, else 0. Of 17 also
+// the column and row of that net's first loose end, counted from 1, else 0.
 pub struct Fault {
     pub number: u16,
     pub place: usize,
@@ -111,7 +111,7 @@ fn check_entries(
     }
     let p = entries::find_pin(top, bottom, w, t, layout);
     if p < layout.len() {
-        return refuse(14, p);
+        return refuse(entries::pin_fault(top, bottom, t, layout, p), p);
     }
     let l = entries::find_last(w, t, layout);
     if l < layout.len() {

@@ -1,7 +1,7 @@
 -- The first demand is met: the numbers, the zeros and the places. Assumes nothing.
 use Prim.Native.Nat.{ℕ, _+_, _*_, _≤_, _<_, min}
 use mathlib.Core.Path.{_≡_, refl, sym, subst, ap, _∙_}
-use mathlib.Core.Logic.{_⊎_}
+use mathlib.Core.Logic.{_⊎_, inl, inr}
 use mathlib.Core.List.{List}
 use native.Mathlib.Omega.{arith}
 use lib.Dec.{ltb}
@@ -14,7 +14,11 @@ use Rattle.router.specs.Answers as routing
 use Rattle.router.proofs.Answered.{need-number, need-entries, answer-number, answer-figures}
 use Rattle.checker.specs.declared.Fault.{Fault}
 use Rattle.checker.specs.Check as checking
+use Rattle.checker.specs.Check.{pinFault}
+use Rattle.checker.specs.Faults.{PinWrong, Unwired, Miswired, Unpinned, FaultAt}
 use Rattle.checker.proofs.Answers.{check-parts, no-place-else, no-point-else}
+use Rattle.checker.proofs.Terminals.{unwired-14, miswired-19, unpinned-20, PinFault, is-14, is-19, is-20, pinFaultBy}
+use Rattle.checker.proofs.Places.{fault-number, fault-words}
 use Rattle.report.specs.declared.Drawing.{Drawing}
 use Rattle.report.specs.declared.Drawing.the-variants.{Absent, Given}
 use Rattle.report.specs.Report as reporting
@@ -27,9 +31,9 @@ use Rattle.listing.proofs.Records.{listed-number, listed-length}
 use Rattle.canonical.specs.Canonical as spelling
 use Rattle.canonical.proofs.Answers as spell
 use Rattle.demands.specs.Table.{First, end, line, ofRecord, ofRows, ofLayout, ofNetTable, ofDrawing, ofReported, ofOutput}
-use Rattle.demands.specs.Refusals.{Refuses, RefusesRecord, Zeros, ZerosRecord, Places, LooseEnds, ReportsFaults}
+use Rattle.demands.specs.Refusals.{Refuses, RefusesRecord, Zeros, ZerosRecord, Places, OneFault, LooseEnds, ReportsFaults}
 use Rattle.demands.proofs.Lines.{rows-lines, rows-first, slice-first, table-lines, record-lines}
-use Rattle.demands.proofs.Drawings.{drawing-lines, strange-least, pin-least, last-least, split-least, loose-least, loose-point}
+use Rattle.demands.proofs.Drawings.{drawing-lines, strange-least, fault-least, last-least, split-least, loose-least, loose-point}
 
 -- THE NUMBERS
 module _ (top bottom : List ℕ) where
@@ -103,12 +107,33 @@ module _ (top bottom : List ℕ) where
       let (n, p, c, r) = check-parts top bottom w t D in
       record {
         strange = λ e. strange-least top bottom w t D _ (sym n ∙ e) p;
-        pin = λ e. pin-least top bottom w t D _ (sym n ∙ e) p;
+        unwired = λ e. fault-least top bottom w t D _ unwired-14 is-14 (sym n ∙ e) p;
+        miswired = λ e. fault-least top bottom w t D _ miswired-19 is-19 (sym n ∙ e) p;
+        unpinned = λ e. fault-least top bottom w t D _ unpinned-20 is-20 (sym n ∙ e) p;
         last = λ e. last-least top bottom w t D _ (sym n ∙ e) p;
         split = λ e. split-least top bottom w t D _ (sym n ∙ e) p;
         loose = λ e. loose-least top bottom w t D _ (sym n ∙ e) p;
-        other = λ o. p ∙ no-place-else top bottom w t D _ (subst (λ (k : ℕ). (k < 13) ⊎ (17 < k)) n o);
+        other = λ o. p ∙ no-place-else top bottom w t D _ (subst (λ (k : ℕ). (k < 13) ⊎ ((k ≡ 18) ⊎ (20 < k))) n o);
       }
+
+  -- the fault of a wrong pin edge
+  pub one-fault : (w t : ℕ) (D : List ℕ) (p : ℕ) → OneFault top bottom w t D p
+  one-fault w t D p =
+      record {
+        some = λ W. go W (pinFault top bottom t D p) (pinFaultBy top bottom t D p) refl;
+        unwiredAlone = λ f. (
+          λ g. omega (arith, fault-number top bottom w t D p unwired-14 f, fault-number top bottom w t D p miswired-19 g),
+          λ g. omega (arith, fault-number top bottom w t D p unwired-14 f, fault-number top bottom w t D p unpinned-20 g),
+        );
+        miswiredAlone = λ f g. omega (arith, fault-number top bottom w t D p miswired-19 f, fault-number top bottom w t D p unpinned-20 g);
+      }
+    where
+      go :
+          PinWrong top bottom w t D p → (n : ℕ) → PinFault n → pinFault top bottom t D p ≡ n
+          → FaultAt Unwired top bottom w t D p ⊎ (FaultAt Miswired top bottom w t D p ⊎ FaultAt Unpinned top bottom w t D p)
+      go W n is-14 e = inl (fault-words top bottom w t D p unwired-14 W e)
+      go W n is-19 e = inr (inl (fault-words top bottom w t D p miswired-19 W e))
+      go W n is-20 e = inr (inr (fault-words top bottom w t D p unpinned-20 W e))
 
   -- the loose ends
   pub loose-ends : (w t : ℕ) (D : List ℕ) → LooseEnds top bottom w t D

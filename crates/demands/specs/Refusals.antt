@@ -14,8 +14,8 @@ use Rattle.record.specs.Record as reading
 use Rattle.record.specs.Record.{topRow, bottomRow}
 use Rattle.listing.specs.Listing as listing
 use Rattle.canonical.specs.Canonical as spelling
-use Rattle.checker.specs.Faults.{Strange, PinWrong, LeavesLast, Split, LooseEnd, FirstLoose}
-use Rattle.demands.specs.Table.{First, end, ofRecord, ofRows, ofLayout, ofNetTable, ofDrawing, ofReported, ofOutput, Least}
+use Rattle.checker.specs.Faults.{Strange, PinWrong, Unwired, Miswired, Unpinned, FaultAt, LeavesLast, Split, LooseEnd, FirstLoose}
+use Rattle.demands.specs.Table.{First, end, ofRecord, ofRows, ofLayout, ofNetTable, ofDrawing, ofReported, ofOutput, Least, LowestFault}
 
 -- THE FIRST NUMBER THAT APPLIES, call by call: of the calls on rows, `most` a limit of columns and `lent` the length of a slice
 pub record Refuses (top bottom : List ℕ) : Type 0 where
@@ -56,14 +56,29 @@ pub record ZerosRecord (s : List ℕ) : Type 0 where
 pub record Places (top bottom : List ℕ) (w t : ℕ) (D : List ℕ) : Type 0 where
   pub strange :
       checking.numberOf (checking.checked top bottom w t D) ≡ 13 → Least (Strange top bottom D) (checking.placeOf (checking.checked top bottom w t D))
-  pub pin :
-      checking.numberOf (checking.checked top bottom w t D) ≡ 14 → Least (PinWrong top bottom w t D) (checking.placeOf (checking.checked top bottom w t D))
+  -- document 02, Job 8: "The lowest faulty position is still reported, and its fault chooses the number."
+  pub unwired :
+      checking.numberOf (checking.checked top bottom w t D) ≡ 14
+      → LowestFault Unwired top bottom w t D (checking.placeOf (checking.checked top bottom w t D))
+  pub miswired :
+      checking.numberOf (checking.checked top bottom w t D) ≡ 19
+      → LowestFault Miswired top bottom w t D (checking.placeOf (checking.checked top bottom w t D))
+  pub unpinned :
+      checking.numberOf (checking.checked top bottom w t D) ≡ 20
+      → LowestFault Unpinned top bottom w t D (checking.placeOf (checking.checked top bottom w t D))
   pub last : checking.numberOf (checking.checked top bottom w t D) ≡ 15 → Least (LeavesLast w t D) (checking.placeOf (checking.checked top bottom w t D))
   pub split : checking.numberOf (checking.checked top bottom w t D) ≡ 16 → Least (Split t D) (checking.placeOf (checking.checked top bottom w t D))
   pub loose : checking.numberOf (checking.checked top bottom w t D) ≡ 17 → Least (LooseEnd w t D) (checking.placeOf (checking.checked top bottom w t D))
   pub other :
-      (checking.numberOf (checking.checked top bottom w t D) < 13) ⊎ (17 < checking.numberOf (checking.checked top bottom w t D))
+      (checking.numberOf (checking.checked top bottom w t D) < 13)
+      ⊎ ((checking.numberOf (checking.checked top bottom w t D) ≡ 18) ⊎ (20 < checking.numberOf (checking.checked top bottom w t D)))
       → checking.placeOf (checking.checked top bottom w t D) ≡ 0
+
+-- 14, 19 and 20 have one place in the table, and its lines for them may stand in any order: a wrong pin edge has one of the three faults, and one alone
+pub record OneFault (top bottom : List ℕ) (w t : ℕ) (D : List ℕ) (p : ℕ) : Type 0 where
+  pub some : PinWrong top bottom w t D p → FaultAt Unwired top bottom w t D p ⊎ (FaultAt Miswired top bottom w t D p ⊎ FaultAt Unpinned top bottom w t D p)
+  pub unwiredAlone : FaultAt Unwired top bottom w t D p → (FaultAt Miswired top bottom w t D p → ⊥) × (FaultAt Unpinned top bottom w t D p → ⊥)
+  pub miswiredAlone : FaultAt Miswired top bottom w t D p → FaultAt Unpinned top bottom w t D p → ⊥
 
 -- "two further numbers give the column and row of that net's first such point, by column and then row, and are 0 in every other case"
 pub record LooseEnds (top bottom : List ℕ) (w t : ℕ) (D : List ℕ) : Type 0 where

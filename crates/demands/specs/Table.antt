@@ -6,7 +6,7 @@ use mathlib.Core.List.{List}
 use lib.ListN.{length, getD}
 use Rattle.grid.specs.Channel.{pins, tracks}
 use Rattle.router.specs.Answers.{width, formulaLength}
-use Rattle.checker.specs.Faults.{Strange, PinWrong, LeavesLast, Split, LooseEnd}
+use Rattle.checker.specs.Faults.{Strange, PinWrong, Unwired, Miswired, Unpinned, FaultAt, LeavesLast, Split, LooseEnd}
 use Rattle.report.specs.declared.Drawing.{Drawing}
 use Rattle.report.specs.declared.Drawing.the-variants.{Absent, Given}
 use Rattle.record.specs.Record.{word}
@@ -80,6 +80,19 @@ pub record Least (P : ℕ → Type 0) (p : ℕ) : Type 0 where
   pub is : P p
   pub least : (q : ℕ) → P q → p ≤ q
 
+-- document 02, Job 8: "The lowest faulty position is still reported, and its fault chooses the number": p is that position and has this fault
+abbrev pub LowestFault : (Fault : (row : List ℕ) (x e : ℕ) → Type 0) (top bottom : List ℕ) (w t : ℕ) (D : List ℕ) (p : ℕ) → Type 0
+LowestFault Fault top bottom w t D p = Least (PinWrong top bottom w t D) p × FaultAt Fault top bottom w t D p
+
+-- "pin edge wrong", one place for three numbers: "Keep 14 for a pin whose edge is 0. … 19: the edge of a pin carries another net; 20: a wire at a terminal
+-- without a pin, or at either edge past column n; both stand with 14, before 15"
+abbrev pub ofPins : (top bottom : List ℕ) (w t : ℕ) (D : List ℕ) → Table → Table
+ofPins top bottom w t D rest =
+    line 14 (Some (LowestFault Unwired top bottom w t D))
+    (line 19 (Some (LowestFault Miswired top bottom w t D))
+    (line 20 (Some (LowestFault Unpinned top bottom w t D))
+    rest))
+
 -- DRAWING
 abbrev pub ofDrawing : (top bottom : List ℕ) (w t : ℕ) (D : List ℕ) → Table
 ofDrawing top bottom w t D =
@@ -92,7 +105,7 @@ ofDrawing top bottom w t D =
     -- "entry neither 0 nor a net"
     (line 13 (Some (Strange top bottom D))
     -- "pin edge wrong"
-    (line 14 (Some (PinWrong top bottom w t D))
+    (ofPins top bottom w t D
     -- "horizontal edge in the last column"
     (line 15 (Some (LeavesLast w t D))
     -- "a net in more than one piece"

@@ -21,15 +21,20 @@ returns c =
 find-pin-requires : tie.Need-find-pin-requires
 find-pin-requires c κs = search needs
 
+pin-fault-requires : tie.Need-pin-fault-requires
+pin-fault-requires c κs = search needs
+
 refuse-requires-2 : tie.Need-refuse-requires-2
 refuse-requires-2 c κs = search needs
 
 returns-2 : tie.Need-returns-2
 returns-2 c =
-    let start = c .before .before .before .before .before .before .before .before in
+    let pins = c .before .before in
+    let entries = pins .before .before in
+    let start = entries .before .before .before .before .before in
     let a = start .args in
-    pin-at (a .top .now) (a .bottom .now) (a .w) (a .t) (a .layout .now) _ (c .before .before .before .before .find-strange .ensures)
-    (c .before .before .before .if1 .left) _ (c .before .before .find-pin .ensures) _ (c .before .if2 .taken) (c .refuse2 .ensures)
+    pin-at (a .top .now) (a .bottom .now) (a .w) (a .t) (a .layout .now) _ (entries .before .find-strange .ensures) (entries .if1 .left) _
+    (pins .before .find-pin .ensures) _ _ (pins .if2 .taken) (c .before .pin-fault .ensures) (c .refuse2 .ensures)
 
 find-last-requires : tie.Need-find-last-requires
 find-last-requires c κs = search needs
@@ -103,6 +108,7 @@ check-entries-spec =
     refuse-requires
     returns
     find-pin-requires
+    pin-fault-requires
     refuse-requires-2
     returns-2
     find-last-requires

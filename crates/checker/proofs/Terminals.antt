@@ -1,0 +1,155 @@
+-- The number of a wrong pin edge: of a terminal, and at a position. Assumes nothing.
+use Prim.Native.Nat.{ℕ, _+_, _*_, _/_, _%_, _≤_, _<_}
+use mathlib.Core.Path.{_≡_, refl, sym, _∙_}
+use mathlib.Core.Logic.{_≢_, _⊎_, inl, inr}
+use mathlib.Core.Bool.{Bool, true, false, not, _&&_}
+use mathlib.Core.List.{List}
+use lib.ListN.{length, getD, List·getD-eq-default}
+use lib.Dec.{eqb, ltb}
+use native.Mathlib.Omega.{arith}
+use Rattle.grid.specs.Channel.{pick}
+use Rattle.grid.proofs.Tests.{eq-eqb, ne-eqb, lt-ltb, and-none, Same, same, diff, sameBy, Below, below, above, belowBy}
+use Rattle.grid.proofs.Drawings.Flat.{column-of, entry-of}
+use Rattle.checker.specs.Check.{terminalFault, columnFault, pinFault}
+use Rattle.checker.specs.Faults.{Occupied, Vacant, Unwired, Miswired, Unpinned}
+
+-- OF A TERMINAL
+module _ (row : List ℕ) (x e : ℕ) where
+  -- one without a pin counts as 0
+  pub vacant-zero : Vacant row x → getD row x 0 ≡ 0
+  vacant-zero (inl l) = List·getD-eq-default row 0 {n = x} l
+  vacant-zero (inr z) = z
+
+  -- no pin
+  pub no-pin : Vacant row x → terminalFault row x e ≡ 20
+  no-pin o = rw (eq-eqb (getD row x 0) 0 (vacant-zero o), and-none (ltb x (length row)) false refl)
+
+  module _ (l : x < length row) (n : getD row x 0 ≢ 0) where
+    -- a pin without a wire
+    pub no-wire : e ≡ 0 → terminalFault row x e ≡ 14
+    no-wire z = rw (lt-ltb x (length row) l, ne-eqb (getD row x 0) 0 n, eq-eqb e 0 z)
+
+    -- a pin with one
+    pub other-wire : e ≢ 0 → terminalFault row x e ≡ 19
+    other-wire m = rw (lt-ltb x (length row) l, ne-eqb (getD row x 0) 0 n, ne-eqb e 0 m)
+
+  -- the number with what it says, to go by cases
+  pub data Terminal : ℕ → Type 0 where
+    unwired : Occupied row x → e ≡ 0 → Terminal 14
+    miswired : Occupied row x → e ≢ 0 → Terminal 19
+    unpinned : Vacant row x → Terminal 20
+
+  pub terminalBy : Terminal (terminalFault row x e)
+  terminalBy = go (ltb x (length row)) (belowBy x (length row)) (eqb (getD row x 0) 0) (sameBy (getD row x 0) 0) (eqb e 0) (sameBy e 0)
+    where
+      go :
+          (a : Bool) → Below x (length row) a → (b : Bool) → Same (getD row x 0) 0 b → (c : Bool) → Same e 0 c
+          → Terminal (pick (a && not b) (pick c 14 19) 20)
+      go false (above l) b s c d = unpinned (inl l)
+      go true (below l) true (same z) c d = unpinned (inr z)
+      go true (below l) false (diff n) true (same z) = unwired (l, n) z
+      go true (below l) false (diff n) false (diff m) = miswired (l, n) m
+
+-- a fault in words, and the number that a wrong edge has just if it has the fault
+pub record FaultNumber (Fault : (row : List ℕ) (x e : ℕ) → Type 0) (n : ℕ) : Type 0 where
+  pub wrong : (row : List ℕ) (x e : ℕ) → Fault row x e → e ≢ getD row x 0
+  pub number : (row : List ℕ) (x e : ℕ) → Fault row x e → terminalFault row x e ≡ n
+  pub words : (row : List ℕ) (x e : ℕ) → e ≢ getD row x 0 → terminalFault row x e ≡ n → Fault row x e
+
+pub unwired-14 : FaultNumber Unwired 14
+unwired-14 = record {
+  wrong = λ row x e ((l, n), z) q. n (sym q ∙ z);
+  number = λ row x e ((l, n), z). no-wire row x e l n z;
+  words = λ row x e d q. go row x e (terminalFault row x e) (terminalBy row x e) q;
+}
+  where
+    go : (row : List ℕ) (x e k : ℕ) → Terminal row x e k → k ≡ 14 → Unwired row x e
+    go row x e k (unwired o z) q = (o, z)
+    go row x e k (miswired o m) q = absurd (omega arith)
+    go row x e k (unpinned o) q = absurd (omega arith)
+
+pub miswired-19 : FaultNumber Miswired 19
+miswired-19 = record {
+  wrong = λ row x e (o, m, d). d;
+  number = λ row x e ((l, n), m, d). other-wire row x e l n m;
+  words = λ row x e d q. go row x e d (terminalFault row x e) (terminalBy row x e) q;
+}
+  where
+    go : (row : List ℕ) (x e : ℕ) → e ≢ getD row x 0 → (k : ℕ) → Terminal row x e k → k ≡ 19 → Miswired row x e
+    go row x e d k (unwired o z) q = absurd (omega arith)
+    go row x e d k (miswired o m) q = (o, m, d)
+    go row x e d k (unpinned o) q = absurd (omega arith)
+
+pub unpinned-20 : FaultNumber Unpinned 20
+unpinned-20 = record {
+  wrong = λ row x e (o, m) q. m (q ∙ vacant-zero row x e o);
+  number = λ row x e (o, m). no-pin row x e o;
+  words = λ row x e d q. go row x e d (terminalFault row x e) (terminalBy row x e) q;
+}
+  where
+    go : (row : List ℕ) (x e : ℕ) → e ≢ getD row x 0 → (k : ℕ) → Terminal row x e k → k ≡ 20 → Unpinned row x e
+    go row x e d k (unwired o z) q = absurd (omega arith)
+    go row x e d k (miswired o m) q = absurd (omega arith)
+    go row x e d k (unpinned o) q = (o, λ z. d (z ∙ sym (vacant-zero row x e o)))
+
+-- AT A POSITION
+-- the three numbers of a wrong pin edge
+pub data PinFault : ℕ → Type 0 where
+  is-14 : PinFault 14
+  is-19 : PinFault 19
+  is-20 : PinFault 20
+
+module _ (top bottom : List ℕ) where
+  module _ (x i e : ℕ) where
+    -- the first entry of a column that is not its bottom pin
+    pub bottom-fault : i ≡ 0 → e ≢ getD bottom x 0 → columnFault top bottom x i e ≡ terminalFault bottom x e
+    bottom-fault z n = rw (eq-eqb i 0 z, ne-eqb e (getD bottom x 0) n)
+
+    -- an entry that is not the first, or that is the bottom pin
+    pub top-fault : (i ≡ 0 → e ≡ getD bottom x 0) → columnFault top bottom x i e ≡ terminalFault top x e
+    top-fault h = go (eqb i 0) (sameBy i 0)
+      where
+        go : (q : Bool) → Same i 0 q → pick (q && not (eqb e (getD bottom x 0))) (terminalFault bottom x e) (terminalFault top x e) ≡ terminalFault top x e
+        go true (same z) = rw (eq-eqb e (getD bottom x 0) (h z))
+        go false (diff n) = refl
+
+  module _ (t : ℕ) (D : List ℕ) where
+    -- at entry i of column x
+    pub pin-fault-of : (p x i : ℕ) → i < 2 * t + 1 → p ≡ x * (2 * t + 1) + i → pinFault top bottom t D p ≡ columnFault top bottom x i (getD D p 0)
+    unfolding pinFault
+    pin-fault-of p x i l e = rw (column-of t p x i l e, entry-of t p x i l e)
+
+    -- it is one of the three
+    pub pinFaultBy : (p : ℕ) → PinFault (pinFault top bottom t D p)
+    unfolding pinFault
+    pinFaultBy p =
+        let x = p / (2 * t + 1) in
+        go (eqb (p % (2 * t + 1)) 0 && not (eqb (getD D p 0) (getD bottom x 0))) (each bottom x (getD D p 0)) (each top x (getD D p 0))
+      where
+        each : (row : List ℕ) (x e : ℕ) → PinFault (terminalFault row x e)
+        each row x e = of (terminalFault row x e) (terminalBy row x e)
+          where
+            of : (k : ℕ) → Terminal row x e k → PinFault k
+            of k (unwired o z) = is-14
+            of k (miswired o m) = is-19
+            of k (unpinned o) = is-20
+
+        go : (q : Bool) {k j : ℕ} → PinFault k → PinFault j → PinFault (pick q k j)
+        go true f g = f
+        go false f g = g
+
+    -- so it is not 0
+    pub fault-not-zero : (p : ℕ) → pinFault top bottom t D p ≢ 0
+    fault-not-zero p e = go (pinFault top bottom t D p) (pinFaultBy p) e
+      where
+        go : (k : ℕ) → PinFault k → k ≢ 0
+        go k is-14 z = omega arith
+        go k is-19 z = omega arith
+        go k is-20 z = omega arith
+
+    -- by the one test that the code makes, with the entry and the bottom pin of its column
+    pub pin-fault-by :
+        (p edge pin : ℕ) → edge ≡ getD D p 0 → pin ≡ getD bottom (p / (2 * t + 1)) 0 → (q : Bool) → (eqb (p % (2 * t + 1)) 0 && not (eqb edge pin)) ≡ q
+        → pinFault top bottom t D p ≡ pick q (terminalFault bottom (p / (2 * t + 1)) edge) (terminalFault top (p / (2 * t + 1)) edge)
+    unfolding pinFault
+    pin-fault-by p edge pin a b q h = rw (a, (rw (a, b) at h))
