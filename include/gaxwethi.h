@@ -36,7 +36,10 @@
  *             11  t over 511
  *             12  slice not w * (2t + 1) entries
  *             13  entry neither 0 nor a net
- *             14  pin edge wrong
+ *                 the lowest pin edge that is wrong chooses one of
+ *             14  the edge of a pin is 0
+ *             19  the edge of a pin carries another net
+ *             20  a wire at a terminal without a pin, or past column n
  *             15  horizontal edge in the last column
  *             16  a net in more than one piece
  *             17  a loose end
@@ -122,14 +125,19 @@ typedef struct {
 
 /*
  * Checks any drawing of a channel by the grid's rules alone. Refuses with 4
- * to 7 and 10 to 17; the number is 0 exactly if the rows are accepted (none of
- * 4 to 7 applies), w and t are at most 511, the slice has the drawing's length,
- * and the drawing is a solution.
+ * to 7, 10 to 17, 19 and 20; the number is 0 exactly if the rows are accepted
+ * (none of 4 to 7 applies), w and t are at most 511, the slice has the drawing's
+ * length, and the drawing is a solution.
  *
- * The place is, for 13 to 15, the lowest position of such an entry, counted
- * from 0; for 16 and 17 the lowest number of such a net; else 0. For 17 column
- * and row, counted from 1 (row y is track y), are those of that net's first
- * loose end, by column and then row; else they are 0.
+ * A pin edge is a column's first or last vertical entry. The lowest position of
+ * one that is not its pin chooses 14, 19 or 20. With t = 0 an entry is compared
+ * with the bottom pin first: if it differs, that pin chooses, else the top pin.
+ *
+ * The place is, for 13 to 15, 19 and 20, the lowest position of such an entry,
+ * counted from 0, for 14, 19 and 20 that of the lowest wrong pin edge; for 16
+ * and 17 the lowest number of such a net; else 0. For 17 column and row, counted
+ * from 1 (row y is track y), are those of that net's first loose end, by column
+ * and then row; else they are 0.
  */
 gaxwethi_check_result gaxwethi_check(const uint16_t *top, size_t n,
                                      const uint16_t *bottom, size_t m,
@@ -158,8 +166,8 @@ uint16_t gaxwethi_report(const uint16_t *top, size_t n,
  * its numbers.
  *
  * Refuses first for the rows, with 4 to 7; then for the table, with 9; then for
- * the drawing, with 10 to 17 as gaxwethi_check does, place, column and row
- * included. So the report is given only for a solution.
+ * the drawing, with 10 to 17, 19 or 20 as gaxwethi_check does, place, column and
+ * row included. So the report is given only for a solution.
  */
 gaxwethi_check_result gaxwethi_report_drawing(const uint16_t *top, size_t n,
                                               const uint16_t *bottom, size_t m,

@@ -5,8 +5,8 @@
   checks.py --large SHAPE N STDIN       one drawing of N columns and N tracks, SHAPE one of spiral, zigzag, comb, ladders, hairpins, rings; the answer
                                         goes to standard output
 
-The cases are those of tools/cases and some that are made here. Of the first, checks.txt was worked by the customer before Job 1, and job1-8-checks.txt by
-an independent model of documents 01 and 02. A case in text is five lines, `top ..`, `bottom ..`, `width W tracks T`, `layout ..`, `number N place P`, from
+The cases are those of tools/cases and some that are made here. Of the first, checks.txt was worked by the customer before Jobs 1 and 8, and
+job1-8-checks.txt by an independent model of documents 01 and 02. A case in text is five lines, `top ..`, `bottom ..`, `width W tracks T`, `layout ..`, `number N place P`, from
 Job 1 on with `column C row R`, and cases are parted by an empty line. For the program it is 16-bit words, low byte first: the lengths of the two rows,
 width, tracks, the layout's length (two words, low word first), the rows, the layout. A width of -1 becomes 65535, which is refused alike. The program
 answers each case by a line `N P C R`. The answers are the second checker's, which is held to those of tools/cases.
@@ -187,14 +187,32 @@ def ends():
     yield [5, 0, 7], [5, 0, 7], 5, 0, [5, 0, 7, 0, 0]
 
 
+def pin_edges():
+    """Cases with wrong pin edges, and close to such: one net in column 1, another in column 2, no pins in column 3 and, past the channel, column 4."""
+    row, w = [1, 2, 0], 4
+    for t in (0, 1, 3):
+        top, bottom, *_, layout = wired(row, row, w, t, (0, 0, 0, t + 1), (1, 0, 1, t + 1, 2))
+        places = sorted({x * (2 * t + 1) + y for x in range(w) for y in (0, t)})
+        for place in places:
+            for entry in (0, 1, 2, 3):
+                yield top, bottom, w, t, [*layout[:place], entry, *layout[place + 1 :]]
+        # A later position with another fault.
+        for place, later in zip(places, places[1:]):
+            for entry, other in ((0, 1), (1, 0), (2, 0), (2, 1)):
+                faulty = list(layout)
+                faulty[place], faulty[later] = entry, other
+                yield top, bottom, w, t, faulty
+
+
 def made():
-    """Cases beside those of tools/cases: rows refused, loose ends, and large drawings, whole and with one edge gone."""
+    """Cases beside those of tools/cases: rows refused, wrong pin edges, loose ends, and large drawings, whole and with one edge gone."""
     yield [1, 1], [0], 2, 1, []
     yield [0] * 257, [0] * 257, 257, 0, [0] * 257
     yield [257, 257], [0, 0], 2, 1, [0] * 6
     yield [256, 256], [0, 0], 2, 1, [0, 256, 256, 0, 256, 0]
     yield [1], [0], 1, 0, [0]
     yield [1, 2, 3], [1, 2, 65535], 0, 0, []
+    yield from pin_edges()
     yield from ends()
     for shape in SHAPES.values():
         top, bottom, d = shape(40, 41)

@@ -44,6 +44,15 @@ def loose_ends(points, t):
     return sorted(point for point, others in points.items() if len(others) == 1 and 1 <= point[1] <= t)
 
 
+def terminal_fault(pin, edge):
+    """The number of the edge at a terminal with a pin, 0 for none: 0 if it is the pin's."""
+    if edge == pin:
+        return 0
+    if pin == 0:
+        return 20
+    return 19 if edge else 14
+
+
 def check(top, bottom, w, t, layout):
     """Number, place, column and row of the first row of the table that applies to a drawing of a channel."""
     number = refusal(top, bottom)
@@ -62,10 +71,10 @@ def check(top, bottom, w, t, layout):
             return 13, position, 0, 0
     for column in range(w):
         above, below = (top[column], bottom[column]) if column < n else (0, 0)
-        if layout[column * size] != below:
-            return 14, column * size, 0, 0
-        if layout[column * size + t] != above:
-            return 14, column * size + t, 0, 0
+        for position, pin in (column * size, below), (column * size + t, above):
+            number = terminal_fault(pin, layout[position])
+            if number:
+                return number, position, 0, 0
     for position in range(max(len(layout) - t, 0), len(layout)):
         if layout[position]:
             return 15, position, 0, 0

@@ -92,17 +92,15 @@ def check_case(part):
     return row(part[0]), row(part[1]), *figures(part[2]), row(part[3])
 
 
-def before_job_8(worked):
-    """A worked answer with the number of before Job 8, which divides 14 into 14, 19 and 20."""
-    return (14 if worked[0] in (19, 20) else worked[0], *worked[1:])
+def before_job_1(number, place, *point):
+    """Number and place as they were before Job 1, when a loose end passed, and Job 8, when 14 stood for 19 and 20 too."""
+    return (0, 0) if number == 17 else (14 if number in (19, 20) else number, place)
 
 
 def same_check(part):
-    """Whether the checker gives a worked case's answer. One without column and row is from before Job 1, when a loose end passed."""
+    """Whether the checker gives a worked case's answer. One without column and row is from before Job 1."""
     answer, worked = check(*check_case(part)), figures(part[4])
-    if len(worked) == 2:
-        return worked == ((0, 0) if answer[0] == 17 else answer[:2])
-    return before_job_8(worked) == answer
+    return worked == (before_job_1(*answer) if len(worked) == 2 else answer)
 
 
 def report_case(part):
@@ -121,7 +119,7 @@ def same_report(part):
     worked = next(figures(line) for line in part if line.startswith("number "))
     nets = {net: record for net, *record in (figures(line) for line in part if line.startswith("net "))}
     filled = [tuple(nets.get(net, NO_RECORD)) for net in range(1, LARGEST + 1)]
-    return before_job_8(worked) == answer and table == (kept if worked[0] else filled + kept[LARGEST:])
+    return worked == answer and table == (kept if worked[0] else filled + kept[LARGEST:])
 
 
 def same_record(part):

@@ -51,8 +51,8 @@ impl Figures {
 #[derive(Clone, Copy, Debug, PartialEq, Eq)]
 pub struct Fault {
     pub refusal: Refusal,
-    /// The lowest position of a bad entry for refusals 13 to 15, the lowest
-    /// net number for 16 and 17, else 0.
+    /// The lowest position of a bad entry for refusals 13 to 15, 19 and 20, the
+    /// lowest net number for 16 and 17, else 0.
     pub place: usize,
     /// For 17 the column of that net's first loose end, counted from 1; else 0.
     pub column: usize,
@@ -68,7 +68,11 @@ impl std::fmt::Display for Fault {
                 write!(f, "{refusal}, net {place} at column {column}, row {row}")
             }
             Refusal::Pieces => write!(f, "{}, net {}", self.refusal, self.place),
-            Refusal::Entry | Refusal::PinEdge | Refusal::LastColumn => {
+            Refusal::Entry
+            | Refusal::UnwiredPin
+            | Refusal::MiswiredPin
+            | Refusal::UnpinnedWire
+            | Refusal::LastColumn => {
                 write!(f, "{}, entry {}", self.refusal, self.place)
             }
             _ => self.refusal.fmt(f),
@@ -104,7 +108,7 @@ impl NetRecord {
 fn accept<T>(number: u16, value: T) -> Result<T, Refusal> {
     match number {
         0 => Ok(value),
-        _ => Err(Refusal::from_number(number).expect("the library's numbers are 0 to 18")),
+        _ => Err(Refusal::from_number(number).expect("the library's numbers are 0 to 20")),
     }
 }
 
@@ -152,7 +156,7 @@ pub fn route(top: &[u16], bottom: &[u16], layout: &mut [u16]) -> Result<Figures,
 }
 
 /// Checks any drawing of a channel by the grid's rules: `Ok` for a solution,
-/// else refusal 4 to 7 or 10 to 17 with its place.
+/// else refusal 4 to 7, 10 to 17, 19 or 20 with its place.
 pub fn check(
     top: &[u16],
     bottom: &[u16],
@@ -179,8 +183,8 @@ pub fn report(top: &[u16], bottom: &[u16], table: &mut [NetRecord]) -> Result<()
 }
 
 /// Fills a table as [`report`] does, with the lengths in a drawing that
-/// [`check`] passes. With refusal 4 to 7, then 9, then 10 to 17 with its place
-/// nothing is written.
+/// [`check`] passes. With refusal 4 to 7, then 9, then those of [`check`] with
+/// their place nothing is written.
 pub fn report_drawing(
     top: &[u16],
     bottom: &[u16],

@@ -32,8 +32,8 @@ pub enum Refusal {
     DrawingLength = 12,
     /// An entry is neither 0 nor a net of the channel; the place is its position.
     Entry = 13,
-    /// A pin edge differs from its pin; the place is its position.
-    PinEdge = 14,
+    /// The edge of a pin is 0; the place is its position.
+    UnwiredPin = 14,
     /// The last column has a horizontal edge; the place is its position.
     LastColumn = 15,
     /// A net is in more than one piece; the place is the lowest such net.
@@ -43,11 +43,16 @@ pub enum Refusal {
     LooseEnd = 17,
     /// The output slice is shorter than the 6 + 4n bytes of a record.
     OutputTooShort = 18,
+    /// The edge of a pin carries another net; the place is its position.
+    MiswiredPin = 19,
+    /// There is a wire at a terminal without a pin, or at an edge past the
+    /// channel's columns; the place is its position.
+    UnpinnedWire = 20,
 }
 
 impl Refusal {
     /// All refusals in the order of their numbers.
-    pub const ALL: [Refusal; 18] = [
+    pub const ALL: [Refusal; 20] = [
         Refusal::RecordLength,
         Refusal::RecordKind,
         Refusal::RecordBody,
@@ -61,19 +66,21 @@ impl Refusal {
         Refusal::Tracks,
         Refusal::DrawingLength,
         Refusal::Entry,
-        Refusal::PinEdge,
+        Refusal::UnwiredPin,
         Refusal::LastColumn,
         Refusal::Pieces,
         Refusal::LooseEnd,
         Refusal::OutputTooShort,
+        Refusal::MiswiredPin,
+        Refusal::UnpinnedWire,
     ];
 
-    /// The papers' number, 1 to 18.
+    /// The papers' number, 1 to 20.
     pub fn number(self) -> u16 {
         self as u16
     }
 
-    /// The refusal of a number; `None` for 0, which is acceptance, and over 18.
+    /// The refusal of a number; `None` for 0, which is acceptance, and over 20.
     pub fn from_number(number: u16) -> Option<Refusal> {
         let at = (number as usize).checked_sub(1)?;
         Self::ALL.get(at).copied()
@@ -96,11 +103,13 @@ impl fmt::Display for Refusal {
             Refusal::Tracks => "over 511 tracks",
             Refusal::DrawingLength => "slice of another length than the drawing",
             Refusal::Entry => "an entry that is no net",
-            Refusal::PinEdge => "a pin edge that differs from its pin",
+            Refusal::UnwiredPin => "a pin without a wire",
             Refusal::LastColumn => "a horizontal edge in the last column",
             Refusal::Pieces => "a net in more than one piece",
             Refusal::LooseEnd => "a loose end",
             Refusal::OutputTooShort => "output slice too short",
+            Refusal::MiswiredPin => "a pin with another net's wire",
+            Refusal::UnpinnedWire => "a wire at a terminal without a pin",
         };
         write!(f, "refused {}: {reason}", self.number())
     }

@@ -69,12 +69,74 @@ fn faults_have_a_place() {
     assert_eq!(check(&[5], &[5], 1, 0, &[5]), Ok(()));
     assert_eq!(check(&[5], &[5], 0, 0, &[]), fault(Refusal::Width, 0));
     assert_eq!(check(&[5], &[5], 1, 1, &[5, 5, 4]), fault(Refusal::Entry, 2));
-    assert_eq!(check(&[5], &[5], 1, 1, &[5, 0, 0]), fault(Refusal::PinEdge, 1));
     assert_eq!(check(&[5], &[5], 1, 1, &[5, 5, 5]), fault(Refusal::LastColumn, 2));
     let pieces = check(&[1, 1], &[0, 0], 2, 1, &[0, 1, 0, 0, 1, 0]);
     assert_eq!(pieces, fault(Refusal::Pieces, 1));
     let words = "refused 16: a net in more than one piece, net 1";
     assert_eq!(pieces.unwrap_err().to_string(), words);
+}
+
+/// The number and the place of a fault.
+fn refused(top: &[u16], bottom: &[u16], w: usize, t: usize, layout: &[u16]) -> (u16, usize) {
+    let fault = check(top, bottom, w, t, layout).unwrap_err();
+    (fault.refusal.number(), fault.place)
+}
+
+#[test]
+fn three_faults_of_a_pin_edge() {
+    // Two nets and a column without pins, in four columns: the last is past column n.
+    let row = [1, 2, 0];
+    let drawing = [1, 1, 0, 2, 2, 0, 0, 0, 0, 0, 0, 0];
+    assert_eq!(check(&row, &row, 4, 1, &drawing), Ok(()));
+    let with = |changes: &[(usize, u16)]| {
+        let mut layout = drawing;
+        changes.iter().for_each(|&(place, entry)| layout[place] = entry);
+        refused(&row, &row, 4, 1, &layout)
+    };
+    for place in [0, 1, 3, 4] {
+        assert_eq!(with(&[(place, 0)]), (14, place));
+        assert_eq!(with(&[(place, 3 - drawing[place])]), (19, place));
+    }
+    for place in [6, 7, 9, 10] {
+        assert_eq!(with(&[(place, 1)]), (20, place));
+    }
+    // The lowest faulty position chooses the number.
+    assert_eq!(with(&[(1, 2), (3, 0), (6, 1)]), (19, 1));
+    assert_eq!(with(&[(3, 0), (4, 1), (9, 1)]), (14, 3));
+    assert_eq!(with(&[(7, 2), (9, 1), (8, 1)]), (20, 7));
+}
+
+#[test]
+fn bottom_pin_first_without_tracks() {
+    // A column's top pin, bottom pin and edge, before columns that are right.
+    let column = |top: u16, bottom: u16, edge: u16| {
+        let row = |pin: u16| [pin, 1, 2];
+        refused(&row(top), &row(bottom), 3, 0, &row(edge))
+    };
+    // The edge is not the bottom pin.
+    assert_eq!(column(0, 1, 0), (14, 0));
+    assert_eq!(column(1, 2, 0), (14, 0));
+    assert_eq!(column(0, 1, 2), (19, 0));
+    assert_eq!(column(1, 2, 1), (19, 0));
+    assert_eq!(column(1, 0, 2), (20, 0));
+    assert_eq!(column(1, 0, 1), (20, 0));
+    // It is, and is not the top pin.
+    assert_eq!(column(1, 0, 0), (14, 0));
+    assert_eq!(column(1, 2, 2), (19, 0));
+    assert_eq!(column(0, 2, 2), (20, 0));
+    // Past column n.
+    assert_eq!(refused(&[1, 2], &[1, 2], 4, 0, &[1, 2, 0, 1]), (20, 3));
+}
+
+#[test]
+fn faults_in_words() {
+    let words = |row: &[u16], layout: &[u16]| {
+        let w = layout.len();
+        check(row, row, w, 0, layout).unwrap_err().to_string()
+    };
+    assert_eq!(words(&[1, 2], &[1, 0]), "refused 14: a pin without a wire, entry 1");
+    assert_eq!(words(&[1, 2], &[1, 1]), "refused 19: a pin with another net's wire, entry 1");
+    assert_eq!(words(&[1], &[1, 1]), "refused 20: a wire at a terminal without a pin, entry 1");
 }
 
 #[test]
@@ -221,5 +283,5 @@ fn numbers_of_refusals() {
         assert_eq!(Refusal::from_number(number), Some(refusal));
     }
     assert_eq!(Refusal::from_number(0), None);
-    assert_eq!(Refusal::from_number(19), None);
+    assert_eq!(Refusal::from_number(21), None);
 }

@@ -128,6 +128,15 @@ pub fn check(top: &[u16], bottom: &[u16], w: usize, t: usize, layout: &[u16]) ->
     }
 }
 
+/// The number of an edge that is not the pin at its terminal, 0 for none.
+fn pin_fault(pin: u16, edge: u16) -> u16 {
+    match (pin, edge) {
+        (0, _) => 20,
+        (_, 0) => 14,
+        _ => 19,
+    }
+}
+
 /// Checks a drawing of rows that are accepted, with their nets.
 pub fn check_nets(
     nets: &Nets,
@@ -156,10 +165,10 @@ pub fn check_nets(
     let pin = |row: &[u16], c: usize| row.get(c).copied().unwrap_or(0);
     for (c, column) in layout.chunks_exact(each).enumerate() {
         if column[0] != pin(bottom, c) {
-            return refused(14, c * each);
+            return refused(pin_fault(pin(bottom, c), column[0]), c * each);
         }
         if column[t] != pin(top, c) {
-            return refused(14, c * each + t);
+            return refused(pin_fault(pin(top, c), column[t]), c * each + t);
         }
     }
     let end = layout.len() - layout.len().min(t);

@@ -10,8 +10,10 @@ use std::fmt::Debug;
 pub struct Tally {
     pub channels: u64,
     pub calls: u64,
-    /// How often each number was the answer, 0 to 18.
-    pub numbers: [u64; 19],
+    /// How often each number was the answer, 0 to 20.
+    pub numbers: [u64; 21],
+    /// How often the checker refused each kind of wrong pin edge.
+    pub pin_faults: [u64; PIN_FAULTS.len()],
     /// How many channels each sweep draws: two-pin, three-pin, many-pin.
     pub sweeps: [u64; 3],
     pub differences: u64,
@@ -25,12 +27,50 @@ const MARK: u8 = 0xa5;
 /// The numbers of a net table.
 const TABLE: usize = 4 * 256;
 
+/// The kinds of wrong pin edges: number, terminal, whether there are tracks. Past
+/// column n there is no top one without tracks, where the bottom one comes first.
+pub const PIN_FAULTS: [&str; 15] = [
+    "14 bottom, t = 0",
+    "14 top, t = 0",
+    "19 bottom, t = 0",
+    "19 top, t = 0",
+    "20 bottom, t = 0",
+    "20 top, t = 0",
+    "20 past n, t = 0",
+    "14 bottom, t > 0",
+    "14 top, t > 0",
+    "19 bottom, t > 0",
+    "19 top, t > 0",
+    "20 bottom, t > 0",
+    "20 top, t > 0",
+    "20 bottom past n, t > 0",
+    "20 top past n, t > 0",
+];
+
+/// The kind of the wrong pin edge for which a drawing is refused.
+fn pin_fault(c: &Channel, d: &Drawing, answer: second::Checked) -> Option<usize> {
+    let number = Some(answer.number).filter(|number| [14, 19, 20].contains(number))?;
+    let (column, row) = (answer.place / (2 * d.t + 1), answer.place % (2 * d.t + 1));
+    let bottom = row == 0 && c.bottom.get(column) != Some(&d.entries[answer.place]);
+    let terminal = match (bottom, column < c.top.len()) {
+        (true, true) => " bottom",
+        (false, true) => " top",
+        (_, false) if d.t == 0 => " past n",
+        (true, false) => " bottom past n",
+        (false, false) => " top past n",
+    };
+    let tracks = if d.t == 0 { "t = 0" } else { "t > 0" };
+    let kind = format!("{number}{terminal}, {tracks}");
+    PIN_FAULTS.iter().position(|&other| other == kind)
+}
+
 impl Tally {
     pub fn new() -> Tally {
         Tally {
             channels: 0,
             calls: 0,
-            numbers: [0; 19],
+            numbers: [0; 21],
+            pin_faults: [0; PIN_FAULTS.len()],
             sweeps: [0; 3],
             differences: 0,
             shown: Vec::new(),
@@ -45,6 +85,7 @@ impl Tally {
         self.differences += other.differences;
         self.shown.extend(other.shown);
         self.numbers.iter_mut().zip(other.numbers).for_each(|(a, b)| *a += b);
+        self.pin_faults.iter_mut().zip(other.pin_faults).for_each(|(a, b)| *a += b);
         self.sweeps.iter_mut().zip(other.sweeps).for_each(|(a, b)| *a += b);
     }
 
@@ -142,6 +183,9 @@ impl Tally {
         let library = library::check(&c.top, &c.bottom, d.w, d.t, &d.entries);
         let call = format!("check, w {} t {}", d.w, d.t);
         self.same(&call, c, ours.number, checked(ours), library);
+        if let Some(kind) = pin_fault(c, d, ours) {
+            self.pin_faults[kind] += 1;
+        }
         self.report_drawing(rng, c, d);
     }
 
@@ -161,8 +205,8 @@ impl Tally {
         self.tables(c, answer.number, &ours, &theirs);
     }
 
-    /// The library's drawing, damaged ones, some with more wire, scribbles and
-    /// meshes.
+    /// The library's drawing, damaged ones, some with more wire, scribbles, meshes
+    /// and, of a channel much like this, one without tracks.
     fn drawings(&mut self, rng: &mut Rng, c: &Channel) {
         let mut entries = vec![0; second::need(&c.top, &c.bottom).unwrap_or(6)];
         let routed = library::route(&c.top, &c.bottom, &mut entries);
@@ -198,6 +242,8 @@ impl Tally {
             if let Some(mesh) = damage::mesh(rng, c) {
                 self.drawing(rng, c, &mesh);
             }
+            let (flat, drawing) = damage::flat(rng, c);
+            self.drawing(rng, &flat, &drawing);
         }
     }
 

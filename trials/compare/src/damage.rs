@@ -200,6 +200,28 @@ pub fn mesh(rng: &mut Rng, channel: &Channel) -> Option<Drawing> {
     Some(drawing)
 }
 
+/// A drawing without tracks, and its channel: most columns have two pins of one net
+/// and its edge; at some one of the three is another net of the channel or gone,
+/// past the channel too.
+pub fn flat(rng: &mut Rng, channel: &Channel) -> (Channel, Drawing) {
+    let mut rows = [channel.top.clone(), channel.top.clone()];
+    let other = |rng: &mut Rng| if rng.percent(40) { 0 } else { rng.pick(&channel.top) };
+    for c in 0..channel.top.len() {
+        if rng.percent(25) {
+            rows[rng.under(2)][c] = other(rng);
+        }
+    }
+    let mut entries = rows[rng.under(2)].clone();
+    entries.resize(entries.len() + rng.under(3), 0);
+    for entry in &mut entries {
+        if rng.percent(10) && !channel.top.is_empty() {
+            *entry = other(rng);
+        }
+    }
+    let [top, bottom] = rows;
+    (Channel { top, bottom }, Drawing { w: entries.len(), t: 0, entries })
+}
+
 /// Damages rows so that most are refused.
 pub fn rows(rng: &mut Rng, channel: &mut Channel) {
     for _ in 0..rng.from(1, 2) {

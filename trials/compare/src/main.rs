@@ -8,7 +8,7 @@ mod damage;
 mod library;
 mod random;
 
-use compare::Tally;
+use compare::{Tally, PIN_FAULTS};
 use std::process::ExitCode;
 use std::sync::atomic::{AtomicU64, Ordering};
 
@@ -50,6 +50,13 @@ fn main() -> ExitCode {
     let [two, three, many] = all.sweeps;
     println!("channels by sweep: two-pin {two}, three-pin {three}, many-pin {many}");
     let untried = all.numbers.iter().filter(|&&count| count == 0).count();
+    let faults: Vec<String> = PIN_FAULTS
+        .iter()
+        .zip(all.pin_faults)
+        .map(|(kind, count)| format!("{kind}: {count}"))
+        .collect();
+    println!("wrong pin edges: {}", faults.join(", "));
+    let unseen = all.pin_faults.iter().filter(|&&count| count == 0).count();
     println!(
         "seed {seed}: {} channels, {} answers compared, {} differences, {:.0} s",
         all.channels,
@@ -58,7 +65,10 @@ fn main() -> ExitCode {
         start.elapsed().as_secs_f64()
     );
     if untried > 0 {
-        println!("{untried} of the numbers 0 to 18 never came up: try more channels");
+        println!("{untried} of the numbers 0 to 20 never came up: try more channels");
     }
-    ExitCode::from((all.differences > 0 || untried > 0) as u8)
+    if unseen > 0 {
+        println!("{unseen} of the wrong pin edges never came up: try more channels");
+    }
+    ExitCode::from((all.differences > 0 || untried > 0 || unseen > 0) as u8)
 }

@@ -1,5 +1,5 @@
-//! The checker: refusals 10 to 17 by the grid's rules alone, and the view of
-//! one column.
+//! The checker: refusals 10 to 17, 19 and 20 by the grid's rules alone, and the
+//! view of one column.
 
 use crate::rows::{nets, Nets};
 use crate::{Checked, LIMIT, MOST_COLUMNS, MOST_NETS};
@@ -115,8 +115,8 @@ pub fn check(top: &[u16], bottom: &[u16], w: usize, t: usize, entries: &[u16]) -
     if let Some(place) = strange_entry(&drawing, &nets) {
         return refused(13, place);
     }
-    if let Some(place) = wrong_pin_edge(&drawing, top, bottom) {
-        return refused(14, place);
+    if let Some((number, place)) = wrong_pin_edge(&drawing, top, bottom) {
+        return refused(number, place);
     }
     if let Some(place) = edge_beyond(&drawing) {
         return refused(15, place);
@@ -136,15 +136,20 @@ fn strange_entry(drawing: &Drawing, nets: &Nets) -> Option<usize> {
     drawing.entries.iter().position(strange)
 }
 
-/// The lowest position of a pin edge that differs from its pin.
-fn wrong_pin_edge(drawing: &Drawing, top: &[u16], bottom: &[u16]) -> Option<usize> {
+/// The number and the lowest position of a pin edge that differs from its pin. In
+/// a drawing without tracks the bottom pin comes first.
+fn wrong_pin_edge(drawing: &Drawing, top: &[u16], bottom: &[u16]) -> Option<(u16, usize)> {
     for c in 0..drawing.w {
         let pins = [(0, bottom), (drawing.t, top)];
         for (row, pins) in pins {
             let position = drawing.vertical(c, row);
-            let pin = pins.get(c).copied().unwrap_or(0);
-            if drawing.entries[position] != pin {
-                return Some(position);
+            let edge = drawing.entries[position];
+            match pins.get(c) {
+                Some(&pin) if pin == edge => {}
+                None if edge == 0 => {}
+                None | Some(0) => return Some((20, position)),
+                Some(_) if edge == 0 => return Some((14, position)),
+                Some(_) => return Some((19, position)),
             }
         }
     }

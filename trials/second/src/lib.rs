@@ -36,8 +36,8 @@ pub struct Figures {
     pub width: usize,
 }
 
-/// The answer of the checker. The place is an entry's position for 13 to 15 and
-/// a net for 16 and 17; column and row are a loose end's.
+/// The answer of the checker. The place is an entry's position for 13 to 15, 19
+/// and 20 and a net for 16 and 17; column and row are a loose end's.
 #[derive(Clone, Copy, Debug, Default, PartialEq, Eq)]
 pub struct Checked {
     pub number: u16,

@@ -115,19 +115,20 @@ fn measures(size: &[isize]) -> (usize, usize) {
     (size[0] as usize, size[1] as usize)
 }
 
-/// Whether an answer is a case's. One without column and row is from before
-/// Job 1, when a loose end passed; one with them has the numbers of Job 8, which
-/// divides 14 into 14, 19 and 20.
+/// Whether an answer is a case's. One without column and row is from before Job 1,
+/// when a loose end passed, and Job 8, when 14 stood for 19 and 20 too.
 fn answer_agrees(case: &[&str], got: Checked) -> bool {
-    let mut wanted = values::<usize>(case, "number");
+    let wanted = values::<usize>(case, "number");
     let (number, place) = (got.number as usize, got.place);
-    if wanted.len() == 2 {
-        return wanted == if number == 17 { [0, 0] } else { [number, place] };
+    if wanted.len() > 2 {
+        return wanted == [number, place, got.column, got.row];
     }
-    if matches!(wanted[0], 19 | 20) {
-        wanted[0] = 14;
-    }
-    wanted == [number, place, got.column, got.row]
+    wanted
+        == match number {
+            17 => [0, 0],
+            19 | 20 => [14, place],
+            _ => [number, place],
+        }
 }
 
 fn check_agrees(case: &[&str]) -> bool {
