@@ -43,20 +43,12 @@ module _ (top bottom : List ℕ) (w t : ℕ) (D : List ℕ) where
   pub no-place-else : (k : ℕ) → (k < 13) ⊎ ((k ≡ 18) ⊎ (20 < k)) → place top bottom w t D k ≡ 0
   unfolding place
   no-place-else k o =
-      rw (
-        ne-eqb k 13 (apart 13 (omega arith) (omega arith) (omega arith)),
-        ne-eqb k 14 (apart 14 (omega arith) (omega arith) (omega arith)),
-        ne-eqb k 19 (apart 19 (omega arith) (omega arith) (omega arith)),
-        ne-eqb k 20 (apart 20 (omega arith) (omega arith) (omega arith)),
-        ne-eqb k 15 (apart 15 (omega arith) (omega arith) (omega arith)),
-        ne-eqb k 16 (apart 16 (omega arith) (omega arith) (omega arith)),
-        ne-eqb k 17 (apart 17 (omega arith) (omega arith) (omega arith)),
-      )
+      rw (off 13 (omega arith), off 14 (omega arith), off 19 (omega arith), off 20 (omega arith))
+      (rw (off 15 (omega arith), off 16 (omega arith), off 17 (omega arith)) refl)
     where
-      apart : (j : ℕ) → 13 ≤ j → j ≤ 20 → j ≢ 18 → k ≢ j
-      apart j a b n e =
-          ⊎-elim (λ (l : k < 13). omega (arith, e))
-          (λ (h : (k ≡ 18) ⊎ (20 < k)). ⊎-elim (λ (i : k ≡ 18). omega (arith, e, i)) (λ (l : 20 < k). omega (arith, e)) h) o
+      off : (j : ℕ) → (13 ≤ j) × ((j ≤ 20) × (j ≢ 18)) → eqb k j ≡ false
+      off j (a, (b, n)) =
+          ne-eqb k j (λ e. ⊎-elim (λ (l : k < 13). omega (arith, e)) (λ h. ⊎-elim (λ (i : k ≡ 18). n (sym e ∙ i)) (λ (l : 20 < k). omega (arith, e)) h) o)
 
   -- the three numbers of a wrong pin edge have one place
   pub fault-place : (k : ℕ) → PinFault k → place top bottom w t D k ≡ firstMispinned top bottom t D

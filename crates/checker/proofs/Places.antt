@@ -85,26 +85,20 @@ module _ (top bottom : List ℕ) (w t : ℕ) (D : List ℕ) (p : ℕ) where
     fault-number (x, l, inl (e, f)) = of-bottom x e (F .wrong bottom x _ f) ∙ F .number bottom x _ f
     fault-number (x, l, inr (e, f, b)) = of-top x e b ∙ F .number top x _ f
 
-    pub fault-words : PinWrong top bottom w t D p → pinFault top bottom t D p ≡ n → FaultAt Fault top bottom w t D p
-    fault-words (x, l, c) k = (x, l, there c)
-      where
-        low : p ≡ x * (2 * t + 1) → verticalOf D t x 0 ≢ getD bottom x 0 → Fault bottom x (verticalOf D t x 0)
-        low e m = F .words bottom x _ m (sym (of-bottom x e m) ∙ k)
+    module _ (k : pinFault top bottom t D p ≡ n) (x : ℕ) (l : x < w) where
+      low : p ≡ x * (2 * t + 1) → verticalOf D t x 0 ≢ getD bottom x 0 → FaultAt Fault top bottom w t D p
+      low e m = (x, l, inl (e, F .words bottom x _ m (sym (of-bottom x e m) ∙ k)))
 
-        there :
-            ((p ≡ x * (2 * t + 1)) × (verticalOf D t x 0 ≢ getD bottom x 0)) ⊎ ((p ≡ x * (2 * t + 1) + t) × (verticalOf D t x t ≢ getD top x 0))
-            → ((p ≡ x * (2 * t + 1)) × Fault bottom x (verticalOf D t x 0))
-            ⊎ ((p ≡ x * (2 * t + 1) + t) × Fault top x (verticalOf D t x t) × (t ≡ 0 → verticalOf D t x 0 ≡ getD bottom x 0))
-        there (inl (e, m)) = inl (e, low e m)
-        there (inr (e, m)) =
-            by-cases (ℕ-discrete t 0)
-            (λ z.
-            by-cases (ℕ-discrete (verticalOf D t x 0) (getD bottom x 0)) (λ b. inr (e, high e m (λ y. b), λ y. b)) (λ b. inl (omega arith, low (omega arith) b)))
-            (λ z. inr (e, high e m (λ y. absurd (z y)), λ y. absurd (z y)))
-          where
-            high :
-                p ≡ x * (2 * t + 1) + t → verticalOf D t x t ≢ getD top x 0 → (t ≡ 0 → verticalOf D t x 0 ≡ getD bottom x 0) → Fault top x (verticalOf D t x t)
-            high e m b = F .words top x _ m (sym (of-top x e b) ∙ k)
+      high :
+          p ≡ x * (2 * t + 1) + t → verticalOf D t x t ≢ getD top x 0 → (t ≡ 0 → verticalOf D t x 0 ≡ getD bottom x 0) → FaultAt Fault top bottom w t D p
+      high e m b = (x, l, inr (e, F .words top x _ m (sym (of-top x e b) ∙ k), b))
+
+    pub fault-words : PinWrong top bottom w t D p → pinFault top bottom t D p ≡ n → FaultAt Fault top bottom w t D p
+    fault-words (x, l, inl (e, m)) k = low k x l e m
+    fault-words (x, l, inr (e, m)) k =
+        by-cases (ℕ-discrete t 0)
+        (λ z. by-cases (ℕ-discrete (verticalOf D t x 0) (getD bottom x 0)) (λ b. high k x l e m (λ y. b)) (λ b. low k x l (omega arith) b))
+        (λ z. high k x l e m (λ y. absurd (z y)))
 
 -- 15
 pub leaves-last-at : (w t : ℕ) (D : List ℕ) (p : ℕ) → (leavesLast w t D p ≡ true) ↔ LeavesLast w t D p

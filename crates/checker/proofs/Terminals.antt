@@ -1,7 +1,7 @@
 -- The number of a wrong pin edge: of a terminal, and at a position. Assumes nothing.
-use Prim.Native.Nat.{ℕ, _+_, _*_, _/_, _%_, _≤_, _<_}
+use Prim.Native.Nat.{ℕ, _+_, _*_, _/_, _%_, _<_}
 use mathlib.Core.Path.{_≡_, refl, sym, _∙_}
-use mathlib.Core.Logic.{_≢_, _⊎_, inl, inr}
+use mathlib.Core.Logic.{_≢_, inl, inr}
 use mathlib.Core.Bool.{Bool, true, false, not, _&&_}
 use mathlib.Core.List.{List}
 use lib.ListN.{length, getD, List·getD-eq-default}
@@ -11,12 +11,12 @@ use Rattle.grid.specs.Channel.{pick}
 use Rattle.grid.proofs.Tests.{eq-eqb, ne-eqb, lt-ltb, and-none, Same, same, diff, sameBy, Below, below, above, belowBy}
 use Rattle.grid.proofs.Drawings.Flat.{column-of, entry-of}
 use Rattle.checker.specs.Check.{terminalFault, columnFault, pinFault}
-use Rattle.checker.specs.Faults.{Occupied, Vacant, Unwired, Miswired, Unpinned}
+use Rattle.checker.specs.Faults.{Vacant, Unwired, Miswired, Unpinned}
 
 -- OF A TERMINAL
 module _ (row : List ℕ) (x e : ℕ) where
   -- one without a pin counts as 0
-  pub vacant-zero : Vacant row x → getD row x 0 ≡ 0
+  vacant-zero : Vacant row x → getD row x 0 ≡ 0
   vacant-zero (inl l) = List·getD-eq-default row 0 {n = x} l
   vacant-zero (inr z) = z
 
@@ -33,22 +33,23 @@ module _ (row : List ℕ) (x e : ℕ) where
     pub other-wire : e ≢ 0 → terminalFault row x e ≡ 19
     other-wire m = rw (lt-ltb x (length row) l, ne-eqb (getD row x 0) 0 n, ne-eqb e 0 m)
 
-  -- the number with what it says, to go by cases
-  pub data Terminal : ℕ → Type 0 where
-    unwired : Occupied row x → e ≡ 0 → Terminal 14
-    miswired : Occupied row x → e ≢ 0 → Terminal 19
-    unpinned : Vacant row x → Terminal 20
+  -- what each number says of a wrong edge
+  abbrev Says : ℕ → Type 0
+  Says k = (k ≡ 14 → Unwired row x e) × (k ≡ 19 → Miswired row x e) × (k ≡ 20 → Unpinned row x e)
 
-  pub terminalBy : Terminal (terminalFault row x e)
-  terminalBy = go (ltb x (length row)) (belowBy x (length row)) (eqb (getD row x 0) 0) (sameBy (getD row x 0) 0) (eqb e 0) (sameBy e 0)
+  said : e ≢ getD row x 0 → Says (terminalFault row x e)
+  said d = go (ltb x (length row)) (belowBy x (length row)) (eqb (getD row x 0) 0) (sameBy (getD row x 0) 0) (eqb e 0) (sameBy e 0)
     where
+      vacant : Vacant row x → Says 20
+      vacant o = (λ q. absurd (omega arith), λ q. absurd (omega arith), λ q. (o, λ z. d (z ∙ sym (vacant-zero o))))
+
       go :
           (a : Bool) → Below x (length row) a → (b : Bool) → Same (getD row x 0) 0 b → (c : Bool) → Same e 0 c
-          → Terminal (pick (a && not b) (pick c 14 19) 20)
-      go false (above l) b s c d = unpinned (inl l)
-      go true (below l) true (same z) c d = unpinned (inr z)
-      go true (below l) false (diff n) true (same z) = unwired (l, n) z
-      go true (below l) false (diff n) false (diff m) = miswired (l, n) m
+          → Says (pick (a && not b) (pick c 14 19) 20)
+      go false (above l) b s c f = vacant (inl l)
+      go true (below l) true (same z) c f = vacant (inr z)
+      go true (below l) false (diff n) true (same z) = (λ q. ((l, n), z), λ q. absurd (omega arith), λ q. absurd (omega arith))
+      go true (below l) false (diff n) false (diff m) = (λ q. absurd (omega arith), λ q. ((l, n), m, d), λ q. absurd (omega arith))
 
 -- a fault in words, and the number that a wrong edge has just if it has the fault
 pub record FaultNumber (Fault : (row : List ℕ) (x e : ℕ) → Type 0) (n : ℕ) : Type 0 where
@@ -60,37 +61,22 @@ pub unwired-14 : FaultNumber Unwired 14
 unwired-14 = record {
   wrong = λ row x e ((l, n), z) q. n (sym q ∙ z);
   number = λ row x e ((l, n), z). no-wire row x e l n z;
-  words = λ row x e d q. go row x e (terminalFault row x e) (terminalBy row x e) q;
+  words = λ row x e d. said row x e d .0;
 }
-  where
-    go : (row : List ℕ) (x e k : ℕ) → Terminal row x e k → k ≡ 14 → Unwired row x e
-    go row x e k (unwired o z) q = (o, z)
-    go row x e k (miswired o m) q = absurd (omega arith)
-    go row x e k (unpinned o) q = absurd (omega arith)
 
 pub miswired-19 : FaultNumber Miswired 19
 miswired-19 = record {
   wrong = λ row x e (o, m, d). d;
   number = λ row x e ((l, n), m, d). other-wire row x e l n m;
-  words = λ row x e d q. go row x e d (terminalFault row x e) (terminalBy row x e) q;
+  words = λ row x e d. said row x e d .1;
 }
-  where
-    go : (row : List ℕ) (x e : ℕ) → e ≢ getD row x 0 → (k : ℕ) → Terminal row x e k → k ≡ 19 → Miswired row x e
-    go row x e d k (unwired o z) q = absurd (omega arith)
-    go row x e d k (miswired o m) q = (o, m, d)
-    go row x e d k (unpinned o) q = absurd (omega arith)
 
 pub unpinned-20 : FaultNumber Unpinned 20
 unpinned-20 = record {
   wrong = λ row x e (o, m) q. m (q ∙ vacant-zero row x e o);
   number = λ row x e (o, m). no-pin row x e o;
-  words = λ row x e d q. go row x e d (terminalFault row x e) (terminalBy row x e) q;
+  words = λ row x e d. said row x e d .2;
 }
-  where
-    go : (row : List ℕ) (x e : ℕ) → e ≢ getD row x 0 → (k : ℕ) → Terminal row x e k → k ≡ 20 → Unpinned row x e
-    go row x e d k (unwired o z) q = absurd (omega arith)
-    go row x e d k (miswired o m) q = absurd (omega arith)
-    go row x e d k (unpinned o) q = (o, λ z. d (z ∙ sym (vacant-zero row x e o)))
 
 -- AT A POSITION
 -- the three numbers of a wrong pin edge
@@ -124,15 +110,14 @@ module _ (top bottom : List ℕ) where
     unfolding pinFault
     pinFaultBy p =
         let x = p / (2 * t + 1) in
-        go (eqb (p % (2 * t + 1)) 0 && not (eqb (getD D p 0) (getD bottom x 0))) (each bottom x (getD D p 0)) (each top x (getD D p 0))
+        let e = getD D p 0 in
+        go (eqb (p % (2 * t + 1)) 0 && not (eqb e (getD bottom x 0))) (of (ltb x (length bottom) && not (eqb (getD bottom x 0) 0)) (eqb e 0))
+        (of (ltb x (length top) && not (eqb (getD top x 0) 0)) (eqb e 0))
       where
-        each : (row : List ℕ) (x e : ℕ) → PinFault (terminalFault row x e)
-        each row x e = of (terminalFault row x e) (terminalBy row x e)
-          where
-            of : (k : ℕ) → Terminal row x e k → PinFault k
-            of k (unwired o z) = is-14
-            of k (miswired o m) = is-19
-            of k (unpinned o) = is-20
+        of : (a b : Bool) → PinFault (pick a (pick b 14 19) 20)
+        of true true = is-14
+        of true false = is-19
+        of false b = is-20
 
         go : (q : Bool) {k j : ℕ} → PinFault k → PinFault j → PinFault (pick q k j)
         go true f g = f

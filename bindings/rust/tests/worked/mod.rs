@@ -23,7 +23,7 @@ pub fn lines<'a>(case: &'a str, word: &'a str) -> impl Iterator<Item = Vec<usize
 }
 
 /// The bytes that a case has in hexadecimal after a word, if it has that line.
-#[allow(dead_code)] // Reports have none.
+#[allow(dead_code)] // Checks and reports have none.
 pub fn bytes(case: &str, word: &str) -> Option<Vec<u8>> {
     let line = case.lines().find(|line| line.split(' ').next() == Some(word))?;
     let digits = line.split(' ').nth(1).unwrap_or("");
