@@ -110,7 +110,7 @@ class Stored(unittest.TestCase):
         self.held("report_cases", reports.stored())
 
     def test_check_cases(self):
-        self.assertEqual((len(list(checks.worked())), len(list(checks.made()))), (2298, 54))
+        self.assertEqual((len(list(checks.worked())), len(list(checks.made()))), (2298, 202))
         self.held("check_cases", checks.stored())
 
     def test_no_program_without_a_maker(self):

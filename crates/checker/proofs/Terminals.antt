@@ -21,17 +21,17 @@ module _ (row : List ℕ) (x e : ℕ) where
   vacant-zero (inr z) = z
 
   -- no pin
-  pub no-pin : Vacant row x → terminalFault row x e ≡ 20
-  no-pin o = rw (eq-eqb (getD row x 0) 0 (vacant-zero o), and-none (ltb x (length row)) false refl)
+  pub at-vacant : Vacant row x → terminalFault row x e ≡ 20
+  at-vacant o = rw (eq-eqb (getD row x 0) 0 (vacant-zero o), and-none (ltb x (length row)) false refl)
 
   module _ (l : x < length row) (n : getD row x 0 ≢ 0) where
     -- a pin without a wire
-    pub no-wire : e ≡ 0 → terminalFault row x e ≡ 14
-    no-wire z = rw (lt-ltb x (length row) l, ne-eqb (getD row x 0) 0 n, eq-eqb e 0 z)
+    pub at-unwired : e ≡ 0 → terminalFault row x e ≡ 14
+    at-unwired z = rw (lt-ltb x (length row) l, ne-eqb (getD row x 0) 0 n, eq-eqb e 0 z)
 
     -- a pin with one
-    pub other-wire : e ≢ 0 → terminalFault row x e ≡ 19
-    other-wire m = rw (lt-ltb x (length row) l, ne-eqb (getD row x 0) 0 n, ne-eqb e 0 m)
+    pub at-miswired : e ≢ 0 → terminalFault row x e ≡ 19
+    at-miswired m = rw (lt-ltb x (length row) l, ne-eqb (getD row x 0) 0 n, ne-eqb e 0 m)
 
   -- what each number says of a wrong edge
   abbrev Says : ℕ → Type 0
@@ -60,21 +60,21 @@ pub record FaultNumber (Fault : (row : List ℕ) (x e : ℕ) → Type 0) (n : �
 pub unwired-14 : FaultNumber Unwired 14
 unwired-14 = record {
   wrong = λ row x e ((l, n), z) q. n (sym q ∙ z);
-  number = λ row x e ((l, n), z). no-wire row x e l n z;
+  number = λ row x e ((l, n), z). at-unwired row x e l n z;
   words = λ row x e d. said row x e d .0;
 }
 
 pub miswired-19 : FaultNumber Miswired 19
 miswired-19 = record {
   wrong = λ row x e (o, m, d). d;
-  number = λ row x e ((l, n), m, d). other-wire row x e l n m;
+  number = λ row x e ((l, n), m, d). at-miswired row x e l n m;
   words = λ row x e d. said row x e d .1;
 }
 
 pub unpinned-20 : FaultNumber Unpinned 20
 unpinned-20 = record {
   wrong = λ row x e (o, m) q. m (q ∙ vacant-zero row x e o);
-  number = λ row x e (o, m). no-pin row x e o;
+  number = λ row x e (o, m). at-vacant row x e o;
   words = λ row x e d. said row x e d .2;
 }
 
