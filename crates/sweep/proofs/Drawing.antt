@@ -1,7 +1,9 @@
--- The drawing: the sweep gap by gap, the columns added, and the whole; what a column without pins draws, and which channels are drawn as before such columns
--- were put to work.
+-- The drawing: the sweep gap by gap, the columns added, and the whole; what a column without pins draws; sweeps that do the same, channels that are drawn as
+-- before columns without pins were put to work, and how far two channels are drawn alike.
 pub mod Sweep
 pub mod Added
 pub mod Whole
 pub mod Joined
+pub mod Same
 pub mod Before
+pub mod Beginning

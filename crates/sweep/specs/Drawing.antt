@@ -44,6 +44,14 @@ noJoint = record { net = 0; low = 0; second = 0; high = 0; later = false }
 abbrev pub noDouble : Double
 noDouble = record { net = 0; low = 0; high = 0; last = 0 }
 
+-- on the tracks tr, a pin of net v (0: none) and a kind
+abbrev pub pinOf : (v kind : ℕ) (tr : List ℕ) → Pin
+pinOf v k tr = pick (eqb v 0) noPin (record { net = v; kind = k; low = lowest v tr; high = highest v tr; many = many v tr })
+
+-- on them, net v as the net of rule 2 (0: none), which has later pins or not
+abbrev pub jointWith : (v : ℕ) (later : Bool) (tr : List ℕ) → Joint
+jointWith v l tr = pick (eqb v 0) noJoint (record { net = v; low = lowest v tr; second = second v tr; high = highest v tr; later = l })
+
 -- the two lowest free tracks
 unfoldable pub freeOf : List ℕ → Free
 freeOf tr = record { first = lowest 0 tr; second = second 0 tr }
@@ -56,9 +64,7 @@ module _ (top bottom : List ℕ) where
 
   -- the pin of net v in column c + 1
   unfoldable pub pinAt : ℕ → List ℕ → ℕ → Pin
-  pinAt c tr v =
-      pick (eqb v 0) noPin
-      (record { net = v; kind = kindBy (ltb 0 (left top bottom c v)) (later (suc c) v); low = lowest v tr; high = highest v tr; many = many v tr })
+  pinAt c tr v = pinOf v (kindBy (ltb 0 (left top bottom c v)) (later (suc c) v)) tr
 
   -- "It is stretched if all its pins lie left and it still has strands": of a net v on a track. Document 01 calls such a net stretched; its source, document
   -- 000, calls it extended, and so do the names here
@@ -77,11 +83,9 @@ module _ (top bottom : List ℕ) where
   unfoldable pub netToJoin : ℕ → List ℕ → ℕ
   netToJoin c tr = pick (eqb (extendedNet c tr) 0) (lowestNet (wideAt c tr) tr) (extendedNet c tr)
 
-  -- net v as the net of rule 2 in column c + 1 (0: none)
+  -- net v as the net of rule 2 in column c + 1
   unfoldable pub jointOf : ℕ → List ℕ → ℕ → Joint
-  jointOf c tr v =
-      pick (eqb v 0) noJoint
-      (record { net = v; low = lowest v tr; second = second v tr; high = highest v tr; later = later (suc c) v })
+  jointOf c tr v = jointWith v (later (suc c) v) tr
 
 -- here m are the mates in gap c: net v has two strands and no mate
 unfoldable pub loneDouble : (tr m : List ℕ) → ℕ → Bool

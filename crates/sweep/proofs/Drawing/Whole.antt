@@ -35,6 +35,10 @@ module _ (t : ℕ) (top bottom : List ℕ) (fit : RowsFit top bottom) (enough : 
       (column t (getD top c 0) (getD bottom c 0) (gap t top bottom c) (moveAt t top bottom c .action) (sound t top bottom fit enough c p))
       (lives c p)
 
+  -- each has 2t + 1 entries
+  pub drawn-length : (c : ℕ) → c ≤ length top → length (drawn t top bottom c) ≡ c * (2 * t + 1)
+  drawn-length c p = columns-drawn c p .size
+
   -- each is what its action draws, and the tracks in the gap after it
   drawn-column : (k : ℕ) → k ≤ length top → (c : ℕ) → c < k
       → columnOf (drawn t top bottom k) t c ≡ verticals t (moveAt t top bottom c .action) ++ gap t top bottom (suc c)
@@ -43,7 +47,7 @@ module _ (t : ℕ) (top bottom : List ℕ) (fit : RowsFit top bottom) (enough : 
   drawn-column (suc k) p c q = go (drawn-column k (omega arith) c) (ℕ-discrete c k)
     where
       size : length (drawn t top bottom k) ≡ k * (2 * t + 1)
-      size = columns-drawn k (omega arith) .size
+      size = drawn-length k (omega arith)
 
       go : (c < k → columnOf (drawn t top bottom k) t c ≡ verticals t (moveAt t top bottom c .action) ++ gap t top bottom (suc c)) → Dec (c ≡ k)
           → columnOf (drawn t top bottom (suc k)) t c ≡ verticals t (moveAt t top bottom c .action) ++ gap t top bottom (suc c)
@@ -58,7 +62,7 @@ module _ (t : ℕ) (top bottom : List ℕ) (fit : RowsFit top bottom) (enough : 
   pub layout-column : (c : ℕ) → c < length top → columnOf (layout t top bottom) t c ≡ verticals t (moveAt t top bottom c .action) ++ gap t top bottom (suc c)
   unfolding layoutBy
   layout-column c p =
-      column-front t (length top) (drawn t top bottom (length top)) (added t (gap t top bottom (length top)) 256) (columns-drawn (length top) (omega arith) .size) c p
+      column-front t (length top) (drawn t top bottom (length top)) (added t (gap t top bottom (length top)) 256) (drawn-length (length top) (omega arith)) c p
       ∙ drawn-column (length top) (omega arith) c p
 
   -- after column n no net has a single strand

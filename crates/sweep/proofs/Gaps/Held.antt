@@ -24,6 +24,14 @@ tracks-enough top bottom = record {
   manyPin = λ e. omega (arith, many-density top bottom e);
 }
 
+-- with two-pin nets as many as the density are, or more
+pub two-enough : (t : ℕ) (top bottom : List ℕ) → family top bottom ≡ TwoPin → density top bottom ≤ t → Enough t top bottom
+two-enough t top bottom e p = record {
+  twoPin = λ i. p;
+  threePin = λ i. absurd (let z : _≡_ {A = ℕ} 0 1 = cc in omega arith);
+  manyPin = λ i. absurd (let z : _≡_ {A = ℕ} 0 1 = cc in omega arith);
+}
+
 -- THE INVARIANT of the t tracks in gap c
 pub record Held (t : ℕ) (top bottom : List ℕ) (c : ℕ) (tr : List ℕ) : Type 0 where
   pub size : length tr ≡ t

@@ -73,8 +73,8 @@ module _ (top bottom : List ℕ) (c : ℕ) (tr : List ℕ) where
   unfolding joinAlone jointOf
   alone-on v n on = simp (ne-eqb v 0 n, on)
 
-  -- an extended net has none
-  later-off : extendedNet top bottom c tr ≢ 0 → later top bottom (suc c) (extendedNet top bottom c tr) ≡ false
+  -- an extended net has no later pins
+  pub later-off : extendedNet top bottom c tr ≢ 0 → later top bottom (suc c) (extendedNet top bottom c tr) ≡ false
   later-off n = false-of (laterBy top bottom (suc c) (extendedNet top bottom c tr) n) (omega (arith, extended-off top bottom c tr n))
 
   -- where rule 2 looks for an extended net alone

@@ -1,6 +1,6 @@
 -- The lowest net on the tracks that passes a test: it passes and stands on a track, and is at most each other one that does.
 use Prim.Native.Nat.{ℕ, zero, suc, _+_, _≤_, _<_, min}
-use mathlib.Core.Path.{_≡_, refl, sym, ap, _∙_}
+use mathlib.Core.Path.{_≡_, refl, sym, ap, ap₂, _∙_}
 use mathlib.Core.Logic.{_⊎_, inl, inr, _≢_, ⊎-elim}
 use mathlib.Core.Bool.{Bool, true, false}
 use mathlib.Core.List.{List, [], _∷_}
@@ -8,7 +8,7 @@ use native.Mathlib.Omega.{arith}
 use lib.Dec.{eqb, ltb}
 use lib.ListN.{length, getD}
 use Rattle.grid.specs.Channel.{pick, bit, times}
-use Rattle.grid.proofs.Tests.{Same, same, sameBy, Below, below, above, belowBy, eqBit}
+use Rattle.grid.proofs.Tests.{Same, same, sameBy, Below, below, above, belowBy, eqBit, eqb-same}
 use Rattle.sweep.specs.Tracks.{lesser, lowestNet}
 
 -- the lesser of two nets is none where both are none, and else one of them
@@ -77,3 +77,10 @@ net-least p (x ∷ xs) (suc j) h e n =
     let ih = net-least p xs j (omega arith) e n in
     let w = lesser-right (pick (p x) x 0) (lowestNet p xs) (ih .0) in
     (w .0, omega arith)
+
+-- two tests that the same nets on the tracks pass find the same net
+pub net-by-test : (p q : ℕ → Bool) (l : List ℕ) → ((v : ℕ) → 0 < times v l → p v ≡ q v) → lowestNet p l ≡ lowestNet q l
+unfolding lowestNet times
+net-by-test p q [] h = refl
+net-by-test p q (x ∷ xs) h =
+    ap₂ (λ (b : Bool) (m : ℕ). lesser (pick b x 0) m) (h x (omega (arith, eqb-same x))) (net-by-test p q xs (λ v r. h v (omega arith)))
