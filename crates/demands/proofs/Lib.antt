@@ -11,3 +11,4 @@ pub mod Tracks
 pub mod Needs
 pub mod Spelling
 pub mod EmptyColumns
+pub mod Beginnings
