@@ -108,6 +108,11 @@ typedef struct {
  * and no net of three has its first two in one column; else 2d - 1. The width
  * is n plus the columns added after column n, at most t/2 rounded down.
  *
+ * Two channels of two-pin nets with the same density, whose first k columns
+ * agree, get drawings with the same first k columns, k * (2d + 1) entries. The
+ * columns added after column n are no part of this, and with larger nets it
+ * does not hold.
+ *
  * A slice of (n + t/2 rounded down) * (2t + 1) entries or more is drawn into at
  * once. With a shorter one the sweep runs twice, the first time without
  * drawing, to see that the drawing fits.

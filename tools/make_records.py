@@ -56,6 +56,15 @@ EMPTY_COLUMNS = (  # a net is stretched, or has three strands, left of a column 
     ([2, 6, 1, 0, 6, 5, 5], [1, 2, 2, 0, 4, 5, 4]),  # one wider
 )
 
+BEGINNINGS = (  # two channels of one family and one density whose first columns agree, and how many do
+    # Two-pin nets: these columns are drawn alike.
+    (([1, 2], [2, 1]), ([1, 2, 0, 3], [2, 1, 0, 3]), 2),  # a net is joined in a column added, or in an empty one
+    (([1, 3, 2, 5, 5], [2, 4, 1, 4, 3]), ([1, 3, 2, 0, 4], [2, 4, 1, 3, 0]), 3),  # a net is stretched after them
+    # The third sweep, and other channels: net 1 or net 2 goes on after the last of these columns, and they are not.
+    (([1, 0, 1], [2, 1, 2]), ([1, 0, 2], [2, 1, 2]), 2),
+    (([1, 1, 1], [2, 2, 1]), ([1, 1, 2], [2, 2, 2]), 2),
+)
+
 
 def split(terminals):
     """Rows from a list of terminals, bottom and top in turn."""
@@ -198,13 +207,15 @@ def damaged(chance):
 
 
 def records(count):
-    """The cases of the paper, every n from 0 to 64, the densest, those of the third sweep and with empty columns, then as many others as asked for."""
+    """The cases of the paper, every n from 0 to 64, the densest, those of the third sweep, with empty columns and with the same beginning, then as many
+    others as asked for."""
     chance = random.Random(count)
     made = [write_record(top, bottom) for top, bottom in CASES]
     made += [write_record(*(channel if n < 24 else sparse)(chance, n)) for n in range(LISTED + 1)]
     made += [write_record(*crossing(chance, LISTED)), write_record(*thirds(chance, LISTED))]
     made += [write_record(*dense_many(chance, LISTED, pins)) for pins in (3, 4)]
     made += [write_record(top, bottom) for top, bottom in (*three_pin_channels(), *EMPTY_COLUMNS)]
+    made += [write_record(*rows) for *pair, _ in BEGINNINGS for rows in pair]
     for _ in range(count):
         kind = chance.randrange(4)
         if kind < 2:

@@ -6,12 +6,12 @@ It keeps the tracks of each net as a set, draws wires row by row, and finds piec
 
     second_router.py list  < record      the listing of one record
     second_router.py compare FILE ...    compare with files of worked cases, whose names end in routes.txt, needs.txt, listings.txt, checks.txt,
-                                         reports.txt, long.txt or records.txt
+                                         reports.txt, long.txt, records.txt or pairs.txt
 """
 
 import sys
 
-from second_channel import LARGEST, refusal
+from second_channel import LARGEST, TWO_PIN, family, refusal
 from second_checker import check
 from second_record import canonical, read_record
 from second_report import NO_RECORD, report
@@ -132,6 +132,22 @@ def same_record(part):
     return answer == (number, len(record)) and output == record + kept[len(record) :]
 
 
+def first_columns(top, bottom, k):
+    """The density of a channel, and the first k columns of its drawing."""
+    d, t, _, drawn = route(top, bottom)
+    return d, drawn[: k * (2 * t + 1)]
+
+
+def same_pair(part):
+    """Whether two channels of two-pin nets and equal density, whose first columns agree, have the worked ones there in their drawings, both the same."""
+    one, other = (row(part[0]), row(part[1])), (row(part[2]), row(part[3]))
+    (k,), (total,) = row(part[4]), row(part[5])
+    if any(refusal(*rows) or family(*rows) != TWO_PIN or len(rows[0]) < k for rows in (one, other)):
+        return False
+    drawn = first_columns(*one, k)
+    return [pins[:k] for pins in one] == [pins[:k] for pins in other] and drawn == first_columns(*other, k) and weighed(drawn[1]) == total
+
+
 KINDS = {
     "routes.txt": same_route,
     "needs.txt": same_need,
@@ -140,6 +156,7 @@ KINDS = {
     "reports.txt": same_report,
     "long.txt": same_report,
     "records.txt": same_record,
+    "pairs.txt": same_pair,
 }
 
 

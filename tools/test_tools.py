@@ -1,6 +1,7 @@
 #!/usr/bin/env python3
 """Tests of the tools: python3 tools/test_tools.py"""
 
+import itertools
 import pathlib
 import re
 import subprocess
@@ -197,6 +198,56 @@ class Routes(unittest.TestCase):
         self.assertEqual(len(shown), 4)
         for rows, text in shown:
             self.assertEqual(second_router.listing(channel.record_of_rows(*channel.rows_of_text(rows))), text)
+
+
+class Beginnings(unittest.TestCase):
+    """The first columns of two drawings, by the second router, on the worked cases of job9-pairs.txt and on other channels."""
+
+    def test_worked_pairs(self):
+        parts = second_router.blocks(HERE / "cases" / "job9-pairs.txt")
+        self.assertEqual([part for part in parts if not second_router.same_pair(part)], [])
+        agreed = [second_router.row(part[4])[0] for part in parts]
+        self.assertEqual((len(parts), sum(k > 0 for k in agreed), max(agreed)), (1808, 1486, 40))
+
+    def test_another_pair_differs(self):
+        pair = ["top 1 2", "bottom 2 1", "top 1 2 0 3", "bottom 2 1 0 3", "same 2", "sum 73"]
+        self.assertTrue(second_router.same_pair(pair))
+        for place, line in [(0, "top 2 1"), (0, "top 1 4"), (2, "top 1 2 3 3"), (3, "bottom 2 1 0 4"), (4, "same 1"), (4, "same 3"), (5, "sum 74")]:
+            self.assertFalse(second_router.same_pair(pair[:place] + [line] + pair[place + 1 :]))
+
+    def test_pairs(self):
+        alike = []
+        for one, other, k in make_records.BEGINNINGS:
+            self.assertEqual([pins[:k] for pins in one], [pins[:k] for pins in other])
+            (d, first), (other_d, other_first) = second_router.first_columns(*one, k), second_router.first_columns(*other, k)
+            self.assertEqual((family(*one), d, len(first)), (family(*other), other_d, len(other_first)))
+            alike.append((family(*one), first == other_first))
+        self.assertEqual(alike, [(TWO_PIN, True)] * 2 + [(THREE_PIN, False), (MANY_PIN, False)])
+
+    def test_other_density(self):
+        one, other = ([1, 1], [0, 0]), ([1, 2, 1], [0, 0, 2])  # the first column agrees
+        self.assertEqual((second_router.first_columns(*one, 1), second_router.first_columns(*other, 1)), ((1, [0, 1, 1]), (2, [0, 1, 1, 1, 0])))
+
+    def small_channels(self, n, pins):
+        """The channels of n columns with nets numbered in the order of their first pin, of at most as many pins each."""
+        for terminals in itertools.product(range(n + 1), repeat=2 * n):
+            top, bottom = list(terminals[::2]), list(terminals[1::2])
+            if not refusal(top, bottom) and renumbered(top, bottom) == (top, bottom) and all(terminals.count(net) <= pins for net in range(1, n + 1)):
+                yield top, bottom
+
+    def beginnings(self, pins):
+        """For each density and first columns of the small channels, how many different first columns their drawings have."""
+        drawn = {}
+        for n in range(5):
+            for top, bottom in self.small_channels(n, pins):
+                for k in range(n + 1):
+                    d, first = second_router.first_columns(top, bottom, k)
+                    drawn.setdefault((d, tuple(top[:k]), tuple(bottom[:k])), set()).add(tuple(first))
+        return [len(firsts) for firsts in drawn.values()]
+
+    def test_all_small_channels(self):
+        self.assertEqual(self.beginnings(2), [1] * 1233)
+        self.assertGreater(max(self.beginnings(3)), 1)
 
 
 class Records(unittest.TestCase):

@@ -17,7 +17,7 @@ WORK = HERE / "target" / "faults"
 CHANNELS = "20000"
 
 ROWS, CHECK, REPORT, LIST, ROUTE, RECORD = (f"baseline/src/{x}.rs" for x in ("rows", "check", "report", "list", "route", "record"))
-MANY, THREE = (f"baseline/src/route/{x}.rs" for x in ("many_pin", "three_pin"))
+TWO, MANY, THREE = (f"baseline/src/route/{x}.rs" for x in ("two_pin", "many_pin", "three_pin"))
 CALLS = "standin/src/lib.rs"
 
 
@@ -182,6 +182,8 @@ FAULTS = [
      "            if p | q == 0 {\n                sweep.c += 1;\n                continue;\n            }"),
     ("column with a top pin taken for an empty one", ROUTE, "p | q == 0", "q == 0"),
     ("column with a bottom pin taken for an empty one", ROUTE, "p | q == 0", "p == 0"),
+    ("two-pin column by a later one", TWO, "match self.stretched.lowest() {",
+     "match self.stretched.members().last().filter(|_| self.nets[p as usize].last % 2 == 0).or(self.stretched.lowest()) {"),
     ("free tracks exchanged", ROUTE, "self.add(f, q);\n                self.add(g, p);",
      "self.add(g, q);\n                self.add(f, p);"),
     ("free track beside a stretched net", MANY,

@@ -144,6 +144,11 @@ pub fn need(top: &[u16], bottom: &[u16]) -> Result<usize, Refusal> {
 /// layout slice, and what follows keeps its contents. With refusal 4 to 8
 /// nothing is written; 8 is a slice shorter than [`need`] says.
 ///
+/// Two channels of two-pin nets with the same density d, whose first k columns
+/// agree, get drawings with the same first k columns, k × (2d + 1) entries. The
+/// columns added after column n are no part of this, and with larger nets it does
+/// not hold.
+///
 /// A slice of (n + t/2 rounded down) × (2t + 1) entries, for n columns and t
 /// tracks, is always enough and is drawn into at once; a shorter one that is long
 /// enough costs a second run of the sweep, without drawing.

@@ -4,16 +4,10 @@
 mod worked;
 
 use gaxwethi::*;
-use worked::{bytes, cases, lines, words};
+use worked::{bytes, cases, lines, sum, words};
 
 /// What stands in a slice before a call; no drawing has such an entry.
 const KEPT: u16 = 999;
-
-/// The sum over all entries of (position + 1) × entry, modulo 2^32.
-fn sum(layout: &[u16]) -> usize {
-    let products = (1..).zip(layout).map(|(place, &entry)| place * u64::from(entry));
-    products.sum::<u64>() as u32 as usize
-}
 
 /// The refusal of a case, if it is refused.
 fn refusal(case: &str) -> Option<Refusal> {

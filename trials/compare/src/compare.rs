@@ -4,6 +4,7 @@ use crate::damage::{self, Drawing};
 use crate::library;
 use crate::random::{self, Channel, Rng};
 use gaxwethi::raw::{Canonical, Checked, Density, Listed, Need, Part, Routed, TEXT};
+use second::rows::Family;
 use std::fmt::Debug;
 
 /// What was compared, and where the two differ.
@@ -16,6 +17,9 @@ pub struct Tally {
     pub pin_faults: [u64; PIN_FAULTS.len()],
     /// How many channels each sweep draws: two-pin, three-pin, many-pin.
     pub sweeps: [u64; 3],
+    /// Of each sweep, how many pairs of channels of equal density begin alike, and how
+    /// many of them are drawn differently there.
+    pub beginnings: [[u64; 2]; 3],
     pub differences: u64,
     /// The first differences, in words.
     pub shown: Vec<String>,
@@ -72,6 +76,7 @@ impl Tally {
             numbers: [0; 21],
             pin_faults: [0; PIN_FAULTS.len()],
             sweeps: [0; 3],
+            beginnings: [[0; 2]; 3],
             differences: 0,
             shown: Vec::new(),
             text: vec![MARK; TEXT].into_boxed_slice().try_into().unwrap(),
@@ -87,6 +92,8 @@ impl Tally {
         self.numbers.iter_mut().zip(other.numbers).for_each(|(a, b)| *a += b);
         self.pin_faults.iter_mut().zip(other.pin_faults).for_each(|(a, b)| *a += b);
         self.sweeps.iter_mut().zip(other.sweeps).for_each(|(a, b)| *a += b);
+        let theirs = other.beginnings.as_flattened();
+        self.beginnings.as_flattened_mut().iter_mut().zip(theirs).for_each(|(a, b)| *a += b);
     }
 
     /// Compares two answers; `number` is the second router's.
@@ -128,6 +135,7 @@ impl Tally {
         self.drawings(rng, &c);
         self.lists(rng, &c);
         self.records(rng, &c);
+        self.beginnings(rng, &c);
         if rng.percent(1) {
             let full = random::full(rng);
             self.records(rng, &full);
@@ -322,6 +330,38 @@ impl Tally {
             self.same("canonical, equal bytes of other nets", c, 0, false, equal);
         }
     }
+
+    /// The first columns of the library's drawings of the channel and of another that
+    /// begins alike, is drawn by the same sweep and has the same density: with two-pin
+    /// nets they are the same.
+    fn beginnings(&mut self, rng: &mut Rng, c: &Channel) {
+        let Some((family, density)) = measured(c).filter(|_| !c.top.is_empty()) else { return };
+        let k = rng.from(1, c.top.len());
+        let fits = |o: &Channel| o != c && measured(o) == Some((family, density));
+        let Some(other) = (0..4).map(|_| random::other_end(rng, c, k)).find(fits) else { return };
+        let alike = first_columns(c, k) == first_columns(&other, k);
+        let [pairs, different] = &mut self.beginnings[family as usize];
+        *pairs += 1;
+        *different += !alike as u64;
+        if family == Family::TwoPin {
+            let call = format!("route, the first {k} columns as of {other:?}");
+            self.same(&call, c, 0, true, alike);
+        }
+    }
+}
+
+/// The family and the density of an accepted channel.
+fn measured(c: &Channel) -> Option<(Family, usize)> {
+    let nets = second::rows::nets(&c.top, &c.bottom, second::MOST_COLUMNS).ok()?;
+    Some((nets.family(), second::density(&c.top, &c.bottom).ok()?))
+}
+
+/// The first k columns of the library's drawing of an accepted channel.
+fn first_columns(c: &Channel, k: usize) -> Vec<u16> {
+    let mut drawn = vec![0; second::formula(&c.top, &c.bottom).unwrap_or(0)];
+    let tracks = library::route(&c.top, &c.bottom, &mut drawn).tracks;
+    drawn.truncate(k.saturating_mul(tracks.saturating_mul(2).saturating_add(1)));
+    drawn
 }
 
 /// What the library leaves in a slice of just the length of a channel's record.

@@ -57,6 +57,10 @@ fn main() -> ExitCode {
         .collect();
     println!("wrong pin edges: {}", faults.join(", "));
     let unseen = all.pin_faults.iter().filter(|&&count| count == 0).count();
+    let [[pairs, _], others @ ..] = all.beginnings;
+    let told = pairs > 0 && others.iter().all(|[_, different]| *different > 0);
+    let [two, three, many] = all.beginnings.map(|[pairs, other]| format!("{other} of {pairs}"));
+    println!("begun alike, drawn otherwise: two-pin {two}, three-pin {three}, many-pin {many}");
     println!(
         "seed {seed}: {} channels, {} answers compared, {} differences, {:.0} s",
         all.channels,
@@ -70,5 +74,10 @@ fn main() -> ExitCode {
     if unseen > 0 {
         println!("{unseen} of the wrong pin edges never came up: try more channels");
     }
-    ExitCode::from((all.differences > 0 || untried > 0 || unseen > 0) as u8)
+    if !told {
+        println!(
+            "no two-pin pairs that begin alike, or no others drawn otherwise: try more channels"
+        );
+    }
+    ExitCode::from((all.differences > 0 || untried > 0 || unseen > 0 || !told) as u8)
 }

@@ -44,7 +44,7 @@ impl Rng {
 }
 
 /// The two rows of a channel.
-#[derive(Clone, Debug)]
+#[derive(Clone, Debug, PartialEq)]
 pub struct Channel {
     pub top: Vec<u16>,
     pub bottom: Vec<u16>,
@@ -134,6 +134,39 @@ pub fn renamed(rng: &mut Rng, channel: &Channel) -> Channel {
     let names = numbers(rng, 256);
     let name = |&net: &u16| if net == 0 { 0 } else { names[net as usize - 1] };
     let [top, bottom] = [&channel.top, &channel.bottom].map(|row| row.iter().map(name).collect());
+    Channel { top, bottom }
+}
+
+/// A channel with the first k columns of another, of which there is one at least, and
+/// after them other ones: places exchanged, a place given to a net from before them,
+/// nets that start there under other numbers, columns added, some of them with a net.
+pub fn other_end(rng: &mut Rng, channel: &Channel, k: usize) -> Channel {
+    let (mut top, mut bottom) = (channel.top.clone(), channel.bottom.clone());
+    let begun: Vec<u16> = [&top[..k], &bottom[..k]].concat();
+    let mut fresh = numbers(rng, 256);
+    fresh.retain(|net| !top.contains(net) && !bottom.contains(net));
+    let mut end: Vec<u16> = top.drain(k..).chain(bottom.drain(k..)).collect();
+    let places = end.len();
+    for _ in 0..rng.pick(&[0, 1, 2, places]).min(places) {
+        end.swap(rng.under(places), rng.under(places));
+    }
+    if places > 0 && rng.percent(40) {
+        end[rng.under(places)] = rng.pick(&begun);
+    }
+    for _ in 0..rng.under(4) {
+        let old = rng.pick(&[&end[..], &[0]].concat());
+        if let Some(new) = fresh.pop().filter(|_| old != 0 && !begun.contains(&old)) {
+            end.iter_mut().filter(|net| **net == old).for_each(|net| *net = new);
+        }
+    }
+    let (above, below) = end.split_at(places / 2);
+    top.extend(above);
+    bottom.extend(below);
+    for _ in 0..rng.under(4).min(256 - top.len()) {
+        let net = fresh.pop().filter(|_| rng.percent(50)).unwrap_or(0);
+        top.push(net);
+        bottom.push(net);
+    }
     Channel { top, bottom }
 }
 

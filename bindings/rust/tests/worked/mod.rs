@@ -1,6 +1,8 @@
 //! Reads the worked cases of `tools/cases`. A case is lines of a word and
 //! numbers, then an empty line.
 
+#![allow(dead_code)] // No test has lines of all kinds.
+
 /// The cases of a text.
 pub fn cases(text: &str) -> impl Iterator<Item = &str> {
     text.split("\n\n").filter(|case| !case.is_empty())
@@ -23,7 +25,6 @@ pub fn lines<'a>(case: &'a str, word: &'a str) -> impl Iterator<Item = Vec<usize
 }
 
 /// The bytes that a case has in hexadecimal after a word, if it has that line.
-#[allow(dead_code)] // Checks and reports have none.
 pub fn bytes(case: &str, word: &str) -> Option<Vec<u8>> {
     let line = case.lines().find(|line| line.split(' ').next() == Some(word))?;
     let digits = line.split(' ').nth(1).unwrap_or("");
@@ -33,6 +34,17 @@ pub fn bytes(case: &str, word: &str) -> Option<Vec<u8>> {
 
 /// The numbers of such a line, 16 bits each.
 pub fn words(case: &str, word: &str) -> Vec<u16> {
-    let line = lines(case, word).next().unwrap_or_else(|| panic!("no {word} in {case}"));
-    line.into_iter().map(|number| number.try_into().unwrap()).collect()
+    all_words(case, word).next().unwrap_or_else(|| panic!("no {word} in {case}"))
+}
+
+/// The numbers of all such lines, 16 bits each.
+pub fn all_words<'a>(case: &'a str, word: &'a str) -> impl Iterator<Item = Vec<u16>> + 'a {
+    let short = |line: Vec<usize>| line.into_iter().map(|number| number.try_into().unwrap());
+    lines(case, word).map(move |line| short(line).collect())
+}
+
+/// The sum over all entries of (position + 1) × entry, modulo 2^32.
+pub fn sum(layout: &[u16]) -> usize {
+    let products = (1..).zip(layout).map(|(place, &entry)| place * u64::from(entry));
+    products.sum::<u64>() as u32 as usize
 }

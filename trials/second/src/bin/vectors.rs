@@ -1,9 +1,10 @@
 //! Compares the second router, checker, net report and canonical record with files
 //! of worked cases: `vectors FILE ...`, where the names end in routes.txt, needs.txt,
-//! checks.txt, listings.txt, reports.txt, long.txt or records.txt. A case ends at an
-//! empty line.
+//! checks.txt, listings.txt, reports.txt, long.txt, records.txt or pairs.txt. A case
+//! ends at an empty line.
 
-use second::{Checked, MOST_NETS};
+use second::rows::Family;
+use second::{Checked, MOST_COLUMNS, MOST_NETS};
 use std::process::ExitCode;
 use std::str::FromStr;
 
@@ -191,6 +192,29 @@ fn record_agrees(case: &[&str]) -> bool {
     got == wanted && written == record && behind.iter().all(|&byte| byte == KEPT)
 }
 
+/// The density of a channel of two-pin nets, and the first k columns of its drawing.
+fn first_columns(top: &[u16], bottom: &[u16], k: usize) -> Option<(usize, Vec<u16>)> {
+    let nets = second::rows::nets(top, bottom, MOST_COLUMNS).ok()?;
+    let mut drawn = vec![0; second::need(top, bottom).ok()?];
+    let figures = second::route(top, bottom, &mut drawn).ok()?;
+    drawn.truncate(k * (2 * figures.tracks + 1));
+    (nets.family() == Family::TwoPin && k <= top.len()).then_some((figures.density, drawn))
+}
+
+/// Whether two channels of two-pin nets and equal density, whose first columns agree,
+/// have the worked ones there in their drawings, both the same.
+fn pair_agrees(case: &[&str]) -> bool {
+    let rows = |word| lines::<u16>(case, word).collect::<Vec<_>>();
+    let (tops, bottoms) = (rows("top"), rows("bottom"));
+    let k = values::<usize>(case, "same")[0];
+    let [one, other] = [0, 1].map(|i| first_columns(&tops[i], &bottoms[i], k));
+    let agree = |rows: &[Vec<u16>]| rows[0].iter().zip(&rows[1]).take(k).all(|(p, q)| p == q);
+    one.as_ref().is_some_and(|(_, drawn)| values::<u32>(case, "sum") == [sum(drawn)])
+        && one == other
+        && agree(&tops)
+        && agree(&bottoms)
+}
+
 /// Whether a case of a file agrees, by the end of the file's name.
 fn kind(file: &str) -> fn(&[&str]) -> bool {
     match file {
@@ -200,7 +224,8 @@ fn kind(file: &str) -> fn(&[&str]) -> bool {
         _ if file.ends_with("listings.txt") => listing_agrees,
         _ if file.ends_with("reports.txt") || file.ends_with("long.txt") => report_agrees,
         _ if file.ends_with("records.txt") => record_agrees,
-        _ => panic!("{file}: neither routes, needs, checks, listings, reports nor records"),
+        _ if file.ends_with("pairs.txt") => pair_agrees,
+        _ => panic!("{file}: neither routes, needs, checks, listings, reports, records nor pairs"),
     }
 }
 
