@@ -60,7 +60,7 @@ BEGINNINGS = (  # two channels of one family and one density whose first columns
     # Two-pin nets: these columns are drawn alike.
     (([1, 2], [2, 1]), ([1, 2, 0, 3], [2, 1, 0, 3]), 2),  # a net is joined in a column added, or in an empty one
     (([1, 3, 2, 5, 5], [2, 4, 1, 4, 3]), ([1, 3, 2, 0, 4], [2, 4, 1, 3, 0]), 3),  # a net is stretched after them
-    # The third sweep, and other channels: net 1 or net 2 goes on after the last of these columns, and they are not.
+    # The third sweep, and other channels: they are not, as net 1 goes on after them or has ended.
     (([1, 0, 1], [2, 1, 2]), ([1, 0, 2], [2, 1, 2]), 2),
     (([1, 1, 1], [2, 2, 1]), ([1, 1, 2], [2, 2, 2]), 2),
 )

@@ -22,8 +22,8 @@ fn drawn_alike(case: &str) {
     assert_eq!((&tops[0][..k], &bottoms[0][..k]), (&tops[1][..k], &bottoms[1][..k]), "{case}");
     let (one, columns) = first_columns(&tops[0], &bottoms[0], k);
     let (other, other_columns) = first_columns(&tops[1], &bottoms[1], k);
-    assert_eq!((one.density, one.tracks), (other.density, one.density), "{case}");
-    assert_eq!(columns.len(), k * (2 * one.density + 1), "{case}");
+    assert_eq!((one.density, one.tracks), (other.density, other.tracks), "{case}");
+    assert_eq!((one.tracks, columns.len()), (one.density, k * (2 * one.density + 1)), "{case}");
     assert!(columns == other_columns, "other columns:\n{case}");
     assert_eq!(lines(case, "sum").next(), Some(vec![sum(&columns)]), "{case}");
 }
