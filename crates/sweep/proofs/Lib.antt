@@ -5,7 +5,8 @@
 -- Actions  each action by itself is good: sound, and it keeps the invariant
 -- Rules    the free tracks that the rules ask for are there, and whatever they choose is good; the pairs of kinds by number
 -- ThreePin the sweep of three-pin channels: its invariant, and that its moves are good
--- Drawing  the invariant in every gap, the columns 1 to n, the columns added; what an empty column draws, and how far two channels are drawn alike
+-- Drawing  the invariant in every gap, the columns 1 to n, the columns added; what an empty column draws, the sweep past column n, and how far two channels
+--          are drawn alike
 -- Solved   the theorems
 pub mod Tracks
 pub mod Columns

@@ -43,7 +43,7 @@ module _ (g : List ℕ) where
   rest-keep (suc v) j N e p = clear-keep (suc v) (rest g v) j N (omega arith) (rest-keep v j N e (omega arith))
 
   -- with all its strands
-  rest-times : (v N : ℕ) → v < N → times N (rest g v) ≡ times N g
+  pub rest-times : (v N : ℕ) → v < N → times N (rest g v) ≡ times N g
   rest-times v N p =
       omega (
         arith,

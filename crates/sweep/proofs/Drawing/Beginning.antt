@@ -11,11 +11,11 @@ use Rattle.grid.specs.Channel.{times, left, density, family}
 use Rattle.grid.proofs.Rows.{RowsFit}
 use Rattle.sweep.specs.declared.Move.{Move}
 use Rattle.sweep.specs.Tracks.{verticals}
-use Rattle.sweep.specs.Drawing.{move, SweepState, stateBy, state, gap, moveAt, drawnBy, drawn, added, layoutBy, layout}
+use Rattle.sweep.specs.Drawing.{move, SweepState, stateBy, state, gap, moveAt, drawnBy, drawn, width, layout}
 use Rattle.sweep.proofs.Gaps.Held.{Enough, two-enough}
 use Rattle.sweep.proofs.Rules.SoFar.{moveSoFar, move-so-far}
 use Rattle.sweep.proofs.Drawing.Sweep.{invariant}
-use Rattle.sweep.proofs.Drawing.Whole.{drawn-length}
+use Rattle.sweep.proofs.Drawing.Past.{drawn-length-past, width-least, layout-drawn}
 use Rattle.sweep.proofs.Drawing.Same.{same-state, same-drawn}
 
 -- THE FIRST COLUMNS OF A LAYOUT
@@ -29,17 +29,14 @@ drawn-more t top bottom k (suc m) =
     let n : k + suc m ≡ suc (k + m) = omega arith in
     (r ++ column, ap (drawn t top bottom) n ∙ ap (λ (z : List ℕ). z ++ column) e ∙ append-assoc (drawn t top bottom k) r column)
 
--- so the first k columns of the layout are the columns 1 to k
-pub layout-begins : (t : ℕ) (top bottom : List ℕ) → RowsFit top bottom → Enough t top bottom → (k : ℕ) → k ≤ length top
+-- so the first k columns of the layout are the columns 1 to k, those added among them
+pub layout-begins : (t : ℕ) (top bottom : List ℕ) → length top ≡ length bottom → (k : ℕ) → k ≤ width t top bottom
     → take (k * (2 * t + 1)) (layout t top bottom) ≡ drawn t top bottom k
-unfolding layoutBy
-layout-begins t top bottom fit enough k p =
-    let (r, e) = drawn-more t top bottom k (length top - k) in
-    let n : k + (length top - k) ≡ length top = omega arith in
-    let rest = added t (gap t top bottom (length top)) 256 in
-    ap (λ (z : List ℕ). take (k * (2 * t + 1)) (z ++ rest)) (sym (ap (drawn t top bottom) n) ∙ e)
-    ∙ ap (take (k * (2 * t + 1))) (append-assoc (drawn t top bottom k) r rest)
-    ∙ take-at (drawn t top bottom k) (r ++ rest) (k * (2 * t + 1)) (drawn-length t top bottom fit enough k p)
+layout-begins t top bottom same k p =
+    let (r, e) = drawn-more t top bottom k (width t top bottom - k) in
+    let n : k + (width t top bottom - k) ≡ width t top bottom = omega arith in
+    ap (take (k * (2 * t + 1))) (layout-drawn t top bottom same ∙ sym (ap (drawn t top bottom) n) ∙ e)
+    ∙ take-at (drawn t top bottom k) r (k * (2 * t + 1)) (drawn-length-past t top bottom k)
 
 -- ROWS THAT AGREE IN THEIR FIRST k PLACES
 module _ (k : ℕ) (l m : List ℕ) (e : take k l ≡ take k m) where
@@ -67,7 +64,7 @@ module _ (t : ℕ) (top bottom : List ℕ) where
 -- of rows that agree it is the same, as far as they do
 module _ (t : ℕ) (top bottom top′ bottom′ : List ℕ) (k : ℕ) (tops : take k top ≡ take k top′) (bottoms : take k bottom ≡ take k bottom′) where
   -- the pins so far
-  left-same : (c : ℕ) → c ≤ k → left top bottom c ≡ left top′ bottom′ c
+  pub left-same : (c : ℕ) → c ≤ k → left top bottom c ≡ left top′ bottom′ c
   unfolding left
   left-same c p = ap₂ {C = ℕ → ℕ} (λ (x y : List ℕ) (v : ℕ). times v x + times v y) (take-same k top top′ tops c p) (take-same k bottom bottom′ bottoms c p)
 
@@ -148,6 +145,6 @@ module _ (t : ℕ) (top bottom top′ bottom′ : List ℕ) (one : TwoPinOn t to
   -- AND THE LAYOUTS BEGIN ALIKE
   pub layout-same : take (k * (2 * t + 1)) (layout t top bottom) ≡ take (k * (2 * t + 1)) (layout t top′ bottom′)
   layout-same =
-      layout-begins t top bottom (one .fit) (enough t top bottom one) k inside
+      layout-begins t top bottom (one .fit .same) k (omega (arith, width-least t top bottom))
       ∙ drawn-same k (omega arith)
-      ∙ sym (layout-begins t top′ bottom′ (other .fit) (enough t top′ bottom′ other) k inside′)
+      ∙ sym (layout-begins t top′ bottom′ (other .fit .same) k (omega (arith, width-least t top′ bottom′)))

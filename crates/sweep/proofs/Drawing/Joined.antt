@@ -14,9 +14,10 @@ use Rattle.grid.specs.Segments.{segment}
 use Rattle.grid.proofs.Tests.{ne-eqb, pick-same}
 use Rattle.grid.proofs.Counting.{times-at}
 use Rattle.grid.proofs.Rows.{RowsFit}
-use Rattle.sweep.specs.declared.Action.{Action}
+use Rattle.sweep.specs.declared.Move.{Move}
 use Rattle.sweep.specs.Tracks.{clear, after, valuesFrom, verticals}
 use Rattle.sweep.specs.Rules.{straight}
+use Rattle.sweep.specs.ThreePin.{still}
 use Rattle.sweep.specs.Drawing.{extendedAt, extendedNet, joining, emptyAt, emptyColumn, move, stateBy, gap, moveAt, layout}
 use Rattle.sweep.proofs.Tracks.Changed.{clear-idle}
 use Rattle.sweep.proofs.Tracks.Nets.{net-least}
@@ -49,9 +50,9 @@ module _ (top bottom : List ℕ) (c : ℕ) (tr : List ℕ) where
   extended-passes v (n, r, k) = rw (ne-eqb v 0 n, false-of (laterBy top bottom c v n) (omega arith))
 
   -- the lowest of them is the net that is joined
-  lowest-is : (v : ℕ) → Extended v → ((u : ℕ) → Extended u → v ≤ u) → extendedNet top bottom c tr ≡ v
+  pub lowest-extended : (v : ℕ) → Extended v → ((u : ℕ) → Extended u → v ≤ u) → extendedNet top bottom c tr ≡ v
   unfolding extendedNet
-  lowest-is v e least =
+  lowest-extended v e least =
       let (j, p, i) = times-at v tr (e .2) in
       let (n, q) = net-least (extendedAt top bottom c) tr j p (rw i (extended-passes v e)) (rw i (omega (arith, e .0))) in
       let (r, k) = extended-right top bottom c tr (omega arith) in
@@ -65,29 +66,32 @@ module _ (top bottom : List ℕ) (c : ℕ) (tr : List ℕ) where
       go (yes z) = z
       go (no n) = let (r, k) = extended-right top bottom c tr n in absurd (nobody (extendedNet top bottom c tr) (n, r, k))
 
-module _ (t : ℕ) (top bottom : List ℕ) (fit : RowsFit top bottom) (enough : Enough t top bottom) (c : ℕ) (inside : c < length top)
-    (empty : emptyAt top bottom c ≡ true) where
+-- A COLUMN WITHOUT PINS
+module _ (t : ℕ) (top bottom : List ℕ) (c : ℕ) (empty : emptyAt top bottom c ≡ true) where
   -- what it does
-  column-does : moveAt t top bottom c .action ≡ emptyColumn top bottom c (gap t top bottom c)
+  pub column-does : moveAt t top bottom c ≡ still (emptyColumn top bottom c (gap t top bottom c))
   unfolding moveAt move
   column-does = rw empty
 
   -- the gap after it
-  gap-after : gap t top bottom (suc c) ≡ clear (extendedNet top bottom c (gap t top bottom c)) (gap t top bottom c)
+  pub gap-after : gap t top bottom (suc c) ≡ clear (extendedNet top bottom c (gap t top bottom c)) (gap t top bottom c)
   unfolding stateBy moveAt
-  gap-after = ap (λ (x : Action). after x (gap t top bottom c)) column-does ∙ empty-after top bottom c (gap t top bottom c)
+  gap-after = ap (λ (x : Move). after (x .action) (gap t top bottom c)) column-does ∙ empty-after top bottom c (gap t top bottom c)
 
+-- among the columns 1 to n
+module _ (t : ℕ) (top bottom : List ℕ) (fit : RowsFit top bottom) (enough : Enough t top bottom) (c : ℕ) (inside : c < length top)
+    (empty : emptyAt top bottom c ≡ true) where
   -- the column, by the net that is joined
   column-drawn : columnOf (layout t top bottom) t c
       ≡ verticals t (emptyColumn top bottom c (gap t top bottom c)) ++ clear (extendedNet top bottom c (gap t top bottom c)) (gap t top bottom c)
-  column-drawn = layout-column t top bottom fit enough c inside ∙ cc (column-does, gap-after)
+  column-drawn = layout-column t top bottom fit enough c inside ∙ cc (column-does t top bottom c empty, gap-after t top bottom c empty)
 
   -- THE LOWEST-NUMBERED EXTENDED NET IS JOINED
   pub lowest-joined : (v : ℕ) → Extended top bottom c (gap t top bottom c) v → ((u : ℕ) → Extended top bottom c (gap t top bottom c) u → v ≤ u)
       → columnOf (layout t top bottom) t c ≡ verticals t (joining (gap t top bottom c) v) ++ clear v (gap t top bottom c)
   unfolding emptyColumn
   lowest-joined v e least =
-      let i = lowest-is top bottom c (gap t top bottom c) v e least in
+      let i = lowest-extended top bottom c (gap t top bottom c) v e least in
       rw (i, ne-eqb v 0 (e .0)) at column-drawn
 
   -- AND WHERE THERE IS NONE ALL RUNS STRAIGHT

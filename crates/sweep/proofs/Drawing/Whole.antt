@@ -36,7 +36,7 @@ module _ (t : ℕ) (top bottom : List ℕ) (fit : RowsFit top bottom) (enough : 
       (lives c p)
 
   -- each has 2t + 1 entries
-  pub drawn-length : (c : ℕ) → c ≤ length top → length (drawn t top bottom c) ≡ c * (2 * t + 1)
+  drawn-length : (c : ℕ) → c ≤ length top → length (drawn t top bottom c) ≡ c * (2 * t + 1)
   drawn-length c p = columns-drawn c p .size
 
   -- each is what its action draws, and the tracks in the gap after it
@@ -79,7 +79,7 @@ module _ (t : ℕ) (top bottom : List ℕ) (fit : RowsFit top bottom) (enough : 
       finished
 
   -- no net is left after 256
-  over : (j : ℕ) → getD (rest (gap t top bottom (length top)) 256) j 0 ≡ 0
+  pub over : (j : ℕ) → getD (rest (gap t top bottom (length top)) 256) j 0 ≡ 0
   over j = go (ℕ-discrete (getD (rest (gap t top bottom (length top)) 256) j 0) 0)
     where
       go : Dec (getD (rest (gap t top bottom (length top)) 256) j 0 ≡ 0) → getD (rest (gap t top bottom (length top)) 256) j 0 ≡ 0
