@@ -9,25 +9,20 @@ use native.Mathlib.Nat.{mul-le-mul-right}
 use native.Mathlib.Decide.{ℕ-discrete}
 use lib.ListN.{length, getD}
 use Rattle.grid.specs.Channel.{tracks, rowsRefused}
-use Rattle.grid.proofs.Counting.{small-in}
 use Rattle.grid.proofs.Rows.{RowsFit, rows-fit, pin-small}
 use Rattle.sweep.specs.Drawing.{gap, moveAt}
-use Rattle.sweep.specs.Drawing as Drawing
 use Rattle.sweep.specs.Working.{nobody, topNet, bottomNet, endedNet}
 use Rattle.router.specs.Answers.{width, layout, formulaLength, sliceLength}
 use Rattle.router.specs.Working.{EachFits}
-use Rattle.sweep.proofs.Solved.{Enough, tracks-enough, gaps, width-most}
+use Rattle.sweep.proofs.Solved.{Enough, tracks-enough, width-most}
 use Rattle.sweep.proofs.Solved as Solved
 use Rattle.sweep.proofs.Columns.Sound.{Known, pinNet, strandNet, applies, plain}
-use Rattle.sweep.proofs.Gaps.Held.{no-more}
 use Rattle.sweep.proofs.Drawing.Sweep.{sound, pair-small}
+use Rattle.sweep.proofs.Drawing.Past.{gap-nets}
+use Rattle.sweep.proofs.Drawing.Past as Past
 
 -- ENOUGH TRACKS for an accepted channel
 module _ (t : ℕ) (top bottom : List ℕ) (fit : RowsFit top bottom) (enough : Enough t top bottom) where
-  -- a strand's net is one of 1 to 256
-  gap-nets : (c : ℕ) → c ≤ length top → (j : ℕ) → getD (gap t top bottom c) j 0 ≤ 256
-  gap-nets c p = small-in (gap t top bottom c) (no-more top bottom fit c (gap t top bottom c) (gaps t top bottom fit enough c p))
-
   -- THE TRACKS THAT A COLUMN GIVES ARE FREE BY THEN, and its nets are the column's, numbered up to 256
   pub column-fits : EachFits t top bottom
   column-fits c p =
@@ -51,7 +46,7 @@ module _ (t : ℕ) (top bottom : List ℕ) (fit : RowsFit top bottom) (enough : 
       small v (pinNet (topNet e)) = pin v (inl e)
       small v (pinNet (bottomNet e)) = pin v (inr e)
       small v (pinNet (endedNet e)) = omega arith
-      small v (strandNet s) = omega (arith, gap-nets c (omega arith) (s .index), s .holds)
+      small v (strandNet s) = omega (arith, gap-nets t top bottom fit enough c (s .index), s .holds)
 
 -- AN ACCEPTED CHANNEL on its own tracks
 module _ (top bottom : List ℕ) (ok : rowsRefused top bottom 256 ≡ 0) where
@@ -69,8 +64,7 @@ module _ (top bottom : List ℕ) (ok : rowsRefused top bottom 256 ≡ 0) where
 
   -- the width is n at least
   pub width-least : length top ≤ width top bottom
-  unfolding Drawing.widthBy
-  width-least = omega arith
+  width-least = Past.width-least (tracks top bottom) top bottom
 
   -- n and half the tracks at most
   pub width-half : width top bottom ≤ length top + tracks top bottom / 2

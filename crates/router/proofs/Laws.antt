@@ -11,7 +11,10 @@
 -- Begin    the arrays and sets as the sweep begins, and as it ends
 -- Onward   from one net of a set to the next
 -- Added    the columns added after column n
+-- Past     a column's move past the last column
+-- Late     the arrays and sets of one channel as those of another with the same first columns
 -- Calls    from the row check's answer to the calls' promises
+-- Standing arrays that stand for a channel of two-pin nets: as the sweep begins, after one column more, with a late net
 pub mod Arrays
 pub mod Lowest
 pub mod Sets
@@ -24,4 +27,7 @@ pub mod Marking
 pub mod Begin
 pub mod Onward
 pub mod Added
+pub mod Past
+pub mod Late
 pub mod Calls
+pub mod Standing

@@ -3,3 +3,4 @@ pub mod Answers
 pub mod Promise
 pub mod Cases
 pub mod Working
+pub mod State

@@ -51,6 +51,20 @@ pub record Frees (t : ℕ) (a s : List ℕ) : Type 0 where
   pub each : (y : ℕ) → 0 < y → y ≤ t → member s y ≡ eqb (getD a y 0) 0
   pub past : (y : ℕ) → t < y → member s y ≡ false
 
+-- the tracks a to b are among the t tracks of an array, and f is the set of its free ones
+pub record Among (t a b : ℕ) (d f : List ℕ) : Type 0 where
+  pub low : 0 < a
+  pub order : a ≤ b
+  pub high : b ≤ t
+  pub fits : t ≤ 511
+  pub sized : length d ≡ 512
+  pub frees : Frees t d f
+
+-- s is d with the strands of net v on the tracks a to b ended, and f is the set of its free tracks
+pub record Ended (t v a b : ℕ) (d s f : List ℕ) : Type 0 where
+  pub cleared : ClearedFrom v a (b + 1) d s
+  pub frees : Frees t s f
+
 -- r is what F does with the two lowest free tracks, where s is the set of the free ones
 abbrev pub WithFree : (s : List ℕ) (F : Free → Action) (r : Action) → Type 0
 WithFree s F r = (t : ℕ) (a : List ℕ) → t ≤ 511 → length a ≡ 512 → Frees t a s → r ≡ F (freeOf (tracksIn t a))
@@ -207,6 +221,14 @@ pub record Fitting (top bottom : List ℕ) (c : ℕ) (x : Move) (tr : List ℕ) 
 -- the sweep's move of column c + 1 does
 abbrev pub FitsAt : ℕ → List ℕ → List ℕ → ℕ → Type 0
 FitsAt t top bottom c = Fitting top bottom c (moveAt t top bottom c) (gap t top bottom c)
+
+-- and so do those of the columns a + 1 to b
+abbrev pub FitsFrom : ℕ → List ℕ → List ℕ → (a b : ℕ) → Type 0
+FitsFrom t top bottom a b = (c : ℕ) → a ≤ c → c < b → FitsAt t top bottom c
+
+-- a row reads as another, at each place: past the end of a row stands 0
+abbrev pub Reads : (row l : List ℕ) → Type 0
+Reads row l = (c : ℕ) → getD row c 0 ≡ getD l c 0
 
 -- and so in each column
 abbrev pub EachFits : ℕ → List ℕ → List ℕ → Type 0

@@ -8,12 +8,13 @@ use sweep::Action;
 use sweep::Move;
 ghost use mathlib.Core.Path.{_≡_};
 ghost use mathlib.Core.Bool.{true};
-ghost use Prim.Native.Nat.{_+_, _*_, _<_, _≤_};
+ghost use mathlib.Core.List.{List};
+ghost use Prim.Native.Nat.{ℕ, _+_, _*_, _≤_};
 ghost use lib.ListN.{length, getD};
 ghost use Rattle.grid.specs.Channel.{pick};
 ghost use Rattle.sweep.specs.Tracks.{after};
 ghost use Rattle.sweep.specs.Drawing.{moveAt, matesAfter};
-ghost use Rattle.router.specs.Working.{tracksIn, RowsAndLasts, Ready, Fitting, FitsAt, EachFits, Keeps, Mated, AtGap, DrawnTo};
+ghost use Rattle.router.specs.Working.{tracksIn, Reads, RowsAndLasts, Ready, Fitting, FitsAt, FitsFrom, Keeps, Mated, AtGap, DrawnTo};
 ghost use Rattle.router.specs.Working.{forms, OthersTold, PairsSettled, withColumn};
 
 // Whether pairs of nets are formed in the sweep of a family.
@@ -27,10 +28,21 @@ fn forms_pairs(family: Family) -> bool
     }
 }
 
-// The pairs after column c + 1 and its move x, where the sweep of the family forms any.
+// The net of the pin in column c + 1 of a row, 0 for none: past its end there is no pin, and a number over 256 is no net.
+fn net_at(row: &[u16], c: usize) -> u16
+    ensures { λ r. ⌜ r ≤ 256 ⌝ }
+    ensures { λ r. ⌜ (getD (now (row .entry)) c 0 ≤ 256 → r ≡ getD (now (row .entry)) c 0) ⌝ }
+{
+    if c < row.len() {
+        return nets::net_of(row[c]);
+    }
+    0
+}
+
+// The pairs after column c + 1 with the pins p and q and its move x, where the sweep of the family forms any.
 fn settle_pairs(
-    top: &[u16],
-    bottom: &[u16],
+    p: u16,
+    q: u16,
     c: usize,
     last: &[u16; 257],
     many: &[u16; 257],
@@ -39,12 +51,11 @@ fn settle_pairs(
     family: Family,
     x: Move,
 )
-    requires { ⌜ c < length (now top) ⌝ }
-    requires { ⌜ RowsAndLasts (now top) (now bottom) (now last) ⌝ }
-    requires { ⌜ (x .action .ended ≤ 256) × (x .double ≤ 256) × (x .single ≤ 256) ⌝ }
-    requires { ⌜ (forms family ≡ true → OthersTold (now many) (now mates) (now lone) (x .action .ended) (getD (now top) c 0) (getD (now bottom) c 0)) ⌝ }
-    ensures { λ _. ⌜ (forms family ≡ true → PairsSettled (now (top .entry)) (now (bottom .entry)) c x (now (many .entry)) (now (mates .entry))
-        (now (mates .exit)) (now (lone .exit))) ⌝ }
+    requires { ⌜ c ≤ 511 ⌝ }
+    ensures { λ _. ⌜ ((top bottom : List ℕ) → getD top c 0 ≡ p → getD bottom c 0 ≡ q → RowsAndLasts top bottom (now (last .entry))
+        → (x .action .ended ≤ 256) × (x .double ≤ 256) × (x .single ≤ 256) → forms family ≡ true
+        → OthersTold (now (many .entry)) (now (mates .entry)) (now (lone .entry)) (x .action .ended) p q
+        → PairsSettled top bottom c x (now (many .entry)) (now (mates .entry)) (now (mates .exit)) (now (lone .exit))) ⌝ }
 {
     if forms_pairs(family) {
         let k = c as u16 + 1;
@@ -56,18 +67,18 @@ fn settle_pairs(
             lone,
             k,
             y.ended,
-            top[c],
-            bottom[c],
+            p,
+            q,
             x.double,
             x.single,
         );
     }
 }
 
-// Applies the move x of column c + 1 and marks the nets of the column, whatever the tracks in its gap are.
-pub(crate) fn settle(
-    top: &[u16],
-    bottom: &[u16],
+// Applies the move x of column c + 1 with the pins p and q and marks the nets of the column.
+fn settle(
+    p: u16,
+    q: u16,
     c: usize,
     last: &[u16; 257],
     tracks: &mut [u16; 512],
@@ -83,36 +94,28 @@ pub(crate) fn settle(
     family: Family,
     x: Move,
 )
-    requires { ⌜ c < length (now top) ⌝ }
-    requires { ⌜ RowsAndLasts (now top) (now bottom) (now last) ⌝ }
-    requires { ⌜ Keeps (now last) t family c (tracksIn t (now tracks)) (now tracks) (now free) (now low) (now high) (now many) (now extended) (now wide) ⌝ }
-    requires { ⌜ Mated family (now mates) (now many) (now mates) (now lone) × Fitting (now top) (now bottom) c x (tracksIn t (now tracks)) ⌝ }
-    ensures { λ _. ⌜ Keeps (now (last .entry)) t family (c + 1) (after (x .action) (tracksIn t (now (tracks .entry)))) (now (tracks .exit)) (now (free .exit))
-        (now (low .exit)) (now (high .exit)) (now (many .exit)) (now (extended .exit)) (now (wide .exit)) ⌝ }
-    ensures { λ _. ⌜ Mated family (matesAfter (now (top .entry)) (now (bottom .entry)) c x (now (mates .entry))) (now (many .exit)) (now (mates .exit))
-        (now (lone .exit)) ⌝ }
+    requires { ⌜ c ≤ 511 ⌝ }
+    ensures { λ _. ⌜ ((top bottom : List ℕ) → getD top c 0 ≡ p → getD bottom c 0 ≡ q → RowsAndLasts top bottom (now (last .entry))
+        → Keeps (now (last .entry)) t family c (tracksIn t (now (tracks .entry))) (now (tracks .entry)) (now (free .entry)) (now (low .entry))
+        (now (high .entry)) (now (many .entry)) (now (extended .entry)) (now (wide .entry))
+        → Mated family (now (mates .entry)) (now (many .entry)) (now (mates .entry)) (now (lone .entry))
+        → Fitting top bottom c x (tracksIn t (now (tracks .entry)))
+        → Keeps (now (last .entry)) t family (c + 1) (after (x .action) (tracksIn t (now (tracks .entry)))) (now (tracks .exit)) (now (free .exit))
+        (now (low .exit)) (now (high .exit)) (now (many .exit)) (now (extended .exit)) (now (wide .exit))
+        × Mated family (matesAfter top bottom c x (now (mates .entry))) (now (many .exit)) (now (mates .exit)) (now (lone .exit))) ⌝ }
 {
     let y = x.action;
     index::apply(tracks, free, low, high, many, t, y);
     let k = c as u16 + 1;
-    nets::mark_three(
-        last,
-        many,
-        extended,
-        wide,
-        k,
-        y.ended,
-        top[c],
-        bottom[c],
-        family,
-    );
-    settle_pairs(top, bottom, c, last, many, mates, lone, family, x);
+    nets::mark_three(last, many, extended, wide, k, y.ended, p, q, family);
+    settle_pairs(p, q, c, last, many, mates, lone, family, x);
 }
 
-// One column of the sweep without its drawing: chooses the move of column c + 1, applies it and marks the nets. The answer is the action.
-pub(crate) fn advance(
-    top: &[u16],
-    bottom: &[u16],
+// One column of the sweep without its drawing: chooses the move of column c + 1 with the pins p and q, applies it and marks the nets. The answer is the
+// action. It ends on any arrays; what it promises, it promises of arrays that hold gap c of a channel's sweep.
+fn advance(
+    p: u16,
+    q: u16,
     c: usize,
     first: &[u16; 257],
     last: &[u16; 257],
@@ -128,18 +131,18 @@ pub(crate) fn advance(
     t: usize,
     family: Family,
 ) -> Action
-    requires { ⌜ c < length (now top) ⌝ }
-    requires { ⌜ Ready (now top) (now bottom) (now first) (now last) t family ⌝ }
-    requires { ⌜ FitsAt t (now top) (now bottom) c ⌝ }
-    requires { ⌜ AtGap (now top) (now bottom) (now last) t family c (now tracks) (now free) (now low) (now high) (now many) (now extended) (now wide)
-        (now mates) (now lone) ⌝ }
-    ensures { λ r. ⌜ r ≡ moveAt t (now (top .entry)) (now (bottom .entry)) c .action ⌝ }
-    ensures { λ _. ⌜ AtGap (now (top .entry)) (now (bottom .entry)) (now (last .entry)) t family (c + 1) (now (tracks .exit)) (now (free .exit))
-        (now (low .exit)) (now (high .exit)) (now (many .exit)) (now (extended .exit)) (now (wide .exit)) (now (mates .exit)) (now (lone .exit)) ⌝ }
+    requires { ⌜ (p ≤ 256) × (q ≤ 256) × (c ≤ 511) × (t ≤ 511) ⌝ }
+    ensures { λ r. ⌜ ((top bottom : List ℕ) → getD top c 0 ≡ p → getD bottom c 0 ≡ q
+        → Ready top bottom (now (first .entry)) (now (last .entry)) t family → FitsAt t top bottom c
+        → AtGap top bottom (now (last .entry)) t family c (now (tracks .entry)) (now (free .entry)) (now (low .entry)) (now (high .entry))
+        (now (many .entry)) (now (extended .entry)) (now (wide .entry)) (now (mates .entry)) (now (lone .entry))
+        → (r ≡ moveAt t top bottom c .action)
+        × AtGap top bottom (now (last .entry)) t family (c + 1) (now (tracks .exit)) (now (free .exit)) (now (low .exit)) (now (high .exit))
+        (now (many .exit)) (now (extended .exit)) (now (wide .exit)) (now (mates .exit)) (now (lone .exit))) ⌝ }
 {
     let x = moves::column_at(
-        top,
-        bottom,
+        p,
+        q,
         c,
         first,
         last,
@@ -156,8 +159,8 @@ pub(crate) fn advance(
         family,
     );
     settle(
-        top,
-        bottom,
+        p,
+        q,
         c,
         last,
         tracks,
@@ -185,16 +188,17 @@ fn draw_column(
     x: Action,
     drawing: bool,
 )
-    requires { ⌜ (t ≤ 511) × (length (now tracks) ≡ 512) × (drawing ≡ true → at + (2 * t + 1) ≤ length (now layout)) ⌝ }
-    ensures { λ _. ⌜ now (layout .exit) ≡ pick drawing (withColumn t at x (tracksIn t (now (tracks .entry))) (now (layout .entry)))
-        (now (layout .entry)) ⌝ }
+    requires { ⌜ (t ≤ 511) × (drawing ≡ true → at + (2 * t + 1) ≤ length (now layout)) ⌝ }
+    ensures { λ _. ⌜ (length (now (tracks .entry)) ≡ 512
+        → now (layout .exit) ≡ pick drawing (withColumn t at x (tracksIn t (now (tracks .entry))) (now (layout .entry))) (now (layout .entry))) ⌝ }
 {
     if drawing {
         writer::write_at(layout, at, tracks, t, x);
     }
 }
 
-// Goes over the columns 1 to n and draws them; in a dry run nothing is drawn.
+// Goes over the columns from + 1 to `to` and draws them; in a dry run nothing is drawn. It ends on any arrays; what it promises, it promises of rows that read
+// as those of a channel, and of arrays that hold gap `from` of its sweep.
 pub(crate) fn sweep_columns(
     top: &[u16],
     bottom: &[u16],
@@ -213,24 +217,27 @@ pub(crate) fn sweep_columns(
     t: usize,
     family: Family,
     drawing: bool,
+    from: usize,
+    to: usize,
 )
-    requires { ⌜ Ready (now top) (now bottom) (now first) (now last) t family ⌝ }
-    requires { ⌜ EachFits t (now top) (now bottom) ⌝ }
-    requires { ⌜ AtGap (now top) (now bottom) (now last) t family 0 (now tracks) (now free) (now low) (now high) (now many) (now extended) (now wide)
-        (now mates) (now lone) ⌝ }
-    requires { ⌜ (drawing ≡ true → length (now top) * (2 * t + 1) ≤ length (now layout)) ⌝ }
-    ensures { λ _. ⌜ AtGap (now (top .entry)) (now (bottom .entry)) (now (last .entry)) t family (length (now (top .entry))) (now (tracks .exit))
-        (now (free .exit)) (now (low .exit)) (now (high .exit)) (now (many .exit)) (now (extended .exit)) (now (wide .exit)) (now (mates .exit))
-        (now (lone .exit)) ⌝ }
-    ensures { λ _. ⌜ DrawnTo drawing (now (top .entry)) (now (bottom .entry)) t (length (now (top .entry))) (now (layout .entry)) (now (layout .exit)) ⌝ }
+    requires { ⌜ (from ≤ to) × (to ≤ 511) × (t ≤ 511) × (drawing ≡ true → to * (2 * t + 1) ≤ length (now layout)) ⌝ }
+    ensures { λ _. ⌜ ((tp bt : List ℕ) → Reads (now (top .entry)) tp → Reads (now (bottom .entry)) bt
+        → Ready tp bt (now (first .entry)) (now (last .entry)) t family → FitsFrom t tp bt from to
+        → AtGap tp bt (now (last .entry)) t family from (now (tracks .entry)) (now (free .entry)) (now (low .entry)) (now (high .entry))
+        (now (many .entry)) (now (extended .entry)) (now (wide .entry)) (now (mates .entry)) (now (lone .entry))
+        → AtGap tp bt (now (last .entry)) t family to (now (tracks .exit)) (now (free .exit)) (now (low .exit)) (now (high .exit))
+        (now (many .exit)) (now (extended .exit)) (now (wide .exit)) (now (mates .exit)) (now (lone .exit))
+        × ((l : List ℕ) → DrawnTo drawing tp bt t from l (now (layout .entry)) → DrawnTo drawing tp bt t to l (now (layout .exit)))) ⌝ }
 {
     let each = 2 * t + 1;
-    let mut i = 0;
-    let mut at = 0;
-    while i < top.len() {
+    let mut i = from;
+    let mut at = from * each;
+    while i < to {
+        let p = net_at(top, i);
+        let q = net_at(bottom, i);
         let x = advance(
-            top,
-            bottom,
+            p,
+            q,
             i,
             first,
             last,

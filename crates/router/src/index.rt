@@ -1,12 +1,13 @@
-// The tracks in a gap, the set of the free ones and the index of the nets' strands, as an action changes them.
+// The tracks in a gap, the set of the free ones and the index of the nets' strands, as an action changes them. Every function here ends on any arrays;
+// what it promises, it promises of arrays that hold what they should.
 use sweep::Action;
 use sweep::Gift;
 ghost use mathlib.Core.Path.{_≡_};
 ghost use Prim.Native.Nat.{_+_, _<_, _≤_, max};
-ghost use lib.ListN.{length, getD, set};
+ghost use lib.ListN.{getD, set};
 ghost use Rattle.sweep.specs.Tracks.{lesser, clear, give, after};
 ghost use Rattle.sweep.specs.Working.{FreeAt, Applies};
-ghost use Rattle.router.specs.Working.{tracksIn, cleared, ClearedFrom, NoneBetween, Frees, Holds, blank};
+ghost use Rattle.router.specs.Working.{tracksIn, cleared, NoneBetween, Frees, Among, Ended, Holds, blank};
 
 // The set of t free tracks.
 pub(crate) fn all_free(t: usize) -> [u64; 8]
@@ -24,9 +25,9 @@ pub(crate) fn all_free(t: usize) -> [u64; 8]
 
 // Ends the strand on track y, if it is one of the net's.
 fn end_at(tracks: &mut [u16; 512], free: &mut [u64; 8], t: usize, y: usize, net: u16)
-    requires { ⌜ (0 < y) × (y ≤ t) × (t ≤ 511) × (length (now tracks) ≡ 512) × Frees t (now tracks) (now free) ⌝ }
+    requires { ⌜ y ≤ 511 ⌝ }
     ensures { λ _. ⌜ now (tracks .exit) ≡ set (now (tracks .entry)) y (cleared net (getD (now (tracks .entry)) y 0)) ⌝ }
-    ensures { λ _. ⌜ Frees t (now (tracks .exit)) (now (free .exit)) ⌝ }
+    ensures { λ _. ⌜ (Among t y y (now (tracks .entry)) (now (free .entry)) → Frees t (now (tracks .exit)) (now (free .exit))) ⌝ }
 {
     if tracks[y] == net {
         tracks[y] = 0;
@@ -36,9 +37,9 @@ fn end_at(tracks: &mut [u16; 512], free: &mut [u64; 8], t: usize, y: usize, net:
 
 // Ends the strands of a net on the tracks a to b.
 fn end_between(tracks: &mut [u16; 512], free: &mut [u64; 8], t: usize, a: u16, b: u16, net: u16)
-    requires { ⌜ (0 < a) × (a ≤ b) × (b ≤ t) × (t ≤ 511) × (length (now tracks) ≡ 512) × Frees t (now tracks) (now free) ⌝ }
-    ensures { λ _. ⌜ ClearedFrom net a (b + 1) (now (tracks .entry)) (now (tracks .exit)) ⌝ }
-    ensures { λ _. ⌜ Frees t (now (tracks .exit)) (now (free .exit)) ⌝ }
+    requires { ⌜ b ≤ 511 ⌝ }
+    ensures { λ _. ⌜ (Among t a b (now (tracks .entry)) (now (free .entry))
+        → Ended t net a b (now (tracks .entry)) (now (tracks .exit)) (now (free .exit))) ⌝ }
 {
     let mut y = a as usize;
     let last = b as usize;
@@ -58,10 +59,9 @@ fn end_strands(
     number: u16,
     net: u16,
 )
-    requires { ⌜ (0 < a) × (a ≤ b) × (b ≤ t) × (t ≤ 511) × (length (now tracks) ≡ 512) × Frees t (now tracks) (now free) ⌝ }
-    requires { ⌜ (0 < net) × (number ≤ 2 → NoneBetween net a b (now tracks)) ⌝ }
-    ensures { λ _. ⌜ ClearedFrom net a (b + 1) (now (tracks .entry)) (now (tracks .exit)) ⌝ }
-    ensures { λ _. ⌜ Frees t (now (tracks .exit)) (now (free .exit)) ⌝ }
+    requires { ⌜ (a ≤ 511) × (b ≤ 511) ⌝ }
+    ensures { λ _. ⌜ (Among t a b (now (tracks .entry)) (now (free .entry)) → 0 < net → (number ≤ 2 → NoneBetween net a b (now (tracks .entry)))
+        → Ended t net a b (now (tracks .entry)) (now (tracks .exit)) (now (free .exit))) ⌝ }
 {
     if number <= 2 {
         end_at(tracks, free, t, a as usize, net);
@@ -81,18 +81,19 @@ pub(crate) fn drop_net(
     t: usize,
     net: u16,
 )
-    requires { ⌜ (net ≤ 256) × Holds t (tracksIn t (now tracks)) (now tracks) (now free) (now low) (now high) (now many) ⌝ }
-    ensures { λ _. ⌜ Holds t (clear net (tracksIn t (now (tracks .entry))))
-        (now (tracks .exit)) (now (free .exit)) (now (low .exit)) (now (high .exit)) (now (many .exit)) ⌝ }
+    ensures { λ _. ⌜ (net ≤ 256
+        → Holds t (tracksIn t (now (tracks .entry))) (now (tracks .entry)) (now (free .entry)) (now (low .entry)) (now (high .entry)) (now (many .entry))
+        → Holds t (clear net (tracksIn t (now (tracks .entry))))
+        (now (tracks .exit)) (now (free .exit)) (now (low .exit)) (now (high .exit)) (now (many .exit))) ⌝ }
 {
-    if net == 0 {
+    if (net == 0) | (256 < net) {
         return;
     }
     let v = net as usize;
     if many[v] == 0 {
         return;
     }
-    end_strands(tracks, free, t, low[v], high[v], many[v], net);
+    end_strands(tracks, free, t, low[v] % 512, high[v] % 512, many[v], net);
     low[v] = 0;
     high[v] = 0;
     many[v] = 0;
@@ -128,26 +129,26 @@ fn add_strand(
     t: usize,
     g: Gift,
 )
-    requires { ⌜ (g .net ≤ 256) × FreeAt (g .track) (tracksIn t (now tracks))
-        × Holds t (tracksIn t (now tracks)) (now tracks) (now free) (now low) (now high) (now many) ⌝ }
-    ensures { λ _. ⌜ Holds t (give (g .track) (g .net) (tracksIn t (now (tracks .entry))))
-        (now (tracks .exit)) (now (free .exit)) (now (low .exit)) (now (high .exit)) (now (many .exit)) ⌝ }
+    ensures { λ _. ⌜ (g .net ≤ 256 → FreeAt (g .track) (tracksIn t (now (tracks .entry)))
+        → Holds t (tracksIn t (now (tracks .entry))) (now (tracks .entry)) (now (free .entry)) (now (low .entry)) (now (high .entry)) (now (many .entry))
+        → Holds t (give (g .track) (g .net) (tracksIn t (now (tracks .entry))))
+        (now (tracks .exit)) (now (free .exit)) (now (low .exit)) (now (high .exit)) (now (many .exit))) ⌝ }
 {
     let track = g.track;
     let net = g.net;
     if track == 0 {
         return;
     }
-    if net == 0 {
+    if (net == 0) | (256 < net) {
         return;
     }
-    let y = track as usize;
+    let y = (track % 512) as usize;
     let v = net as usize;
     tracks[y] = net;
     sets::remove(free, y);
     low[v] = lesser_of(low[v], track);
     high[v] = greater_of(high[v], track);
-    many[v] = many[v] + 1;
+    many[v] = many[v] % 512 + 1;
 }
 
 // The tracks after an action.
@@ -160,9 +161,10 @@ pub(crate) fn apply(
     t: usize,
     x: Action,
 )
-    requires { ⌜ Applies x (tracksIn t (now tracks)) × Holds t (tracksIn t (now tracks)) (now tracks) (now free) (now low) (now high) (now many) ⌝ }
-    ensures { λ _. ⌜ Holds t (after x (tracksIn t (now (tracks .entry))))
-        (now (tracks .exit)) (now (free .exit)) (now (low .exit)) (now (high .exit)) (now (many .exit)) ⌝ }
+    ensures { λ _. ⌜ (Applies x (tracksIn t (now (tracks .entry)))
+        → Holds t (tracksIn t (now (tracks .entry))) (now (tracks .entry)) (now (free .entry)) (now (low .entry)) (now (high .entry)) (now (many .entry))
+        → Holds t (after x (tracksIn t (now (tracks .entry))))
+        (now (tracks .exit)) (now (free .exit)) (now (low .exit)) (now (high .exit)) (now (many .exit))) ⌝ }
 {
     drop_net(tracks, free, low, high, many, t, x.ended);
     drop_net(tracks, free, low, high, many, t, x.closed);

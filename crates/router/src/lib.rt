@@ -6,6 +6,7 @@ mod index;
 mod moves;
 mod nets;
 mod pins;
+pub mod steps;
 mod writer;
 
 use grid::Family;
@@ -45,13 +46,13 @@ pub enum Length {
 }
 
 // A table with no track taken, and one with no net.
-fn no_tracks() -> [u16; 512]
+pub(crate) fn no_tracks() -> [u16; 512]
     ensures { λ r. ⌜ r ≡ blank ⌝ }
 {
     [0u16; 512]
 }
 
-fn no_nets() -> [u16; 257]
+pub(crate) fn no_nets() -> [u16; 257]
     ensures { λ r. ⌜ r ≡ noNets ⌝ }
 {
     [0u16; 257]
@@ -85,6 +86,7 @@ fn sweep_channel(
     let mut wide = sets::empty();
     let mut mates = no_nets();
     let mut lone = sets::empty();
+    let n = top.len();
     columns::sweep_columns(
         top,
         bottom,
@@ -103,8 +105,9 @@ fn sweep_channel(
         t,
         family,
         drawing,
+        0,
+        n,
     );
-    let n = top.len();
     if drawing {
         return added::finish(
             layout,
@@ -141,7 +144,7 @@ fn less_one(n: usize) -> usize
 }
 
 // Document 01's slice length for n columns on t tracks.
-fn formula_length(n: usize, t: usize) -> usize
+pub(crate) fn formula_length(n: usize, t: usize) -> usize
     requires { ⌜ (n ≤ 256) × (t ≤ 511) ⌝ }
     ensures { λ r. ⌜ r ≡ formulaLength n t ⌝ }
 {

@@ -12,7 +12,8 @@ use sweep::Move;
 use sweep::Pin;
 ghost use mathlib.Core.Path.{_≡_};
 ghost use mathlib.Core.Bool.{true, _&&_, _||_};
-ghost use Prim.Native.Nat.{ℕ, _<_, _≤_};
+ghost use mathlib.Core.List.{List};
+ghost use Prim.Native.Nat.{ℕ, _≤_};
 ghost use lib.Dec.{eqb};
 ghost use lib.ListN.{length, getD};
 ghost use Rattle.sets.specs.Member.{member};
@@ -33,13 +34,13 @@ fn lowest_joint(
     t: usize,
     c: u16,
 ) -> Joint
-    requires { ⌜ (t ≤ 511) × (length (now tracks) ≡ 512) × (c < 256) ⌝ }
-    requires { ⌜ LowsAndHighs (now low) (now high) (tracksIn t (now tracks)) ⌝ }
-    requires { ⌜ ((v : ℕ) → Next (now extended) 0 v → v ≤ 256) ⌝ }
-    ensures { λ r. ⌜ IsLowestJoint (now (last .entry)) (now (low .entry)) (now (high .entry)) (now (extended .entry))
-        (tracksIn t (now (tracks .entry))) c r ⌝ }
+    requires { ⌜ c ≤ 511 ⌝ }
+    ensures { λ r. ⌜ (t ≤ 511 → length (now (tracks .entry)) ≡ 512 → LowsAndHighs (now (low .entry)) (now (high .entry)) (tracksIn t (now (tracks .entry)))
+        → ((v : ℕ) → Next (now (extended .entry)) 0 v → v ≤ 256)
+        → IsLowestJoint (now (last .entry)) (now (low .entry)) (now (high .entry)) (now (extended .entry)) (tracksIn t (now (tracks .entry))) c r) ⌝ }
 {
-    nets::joint_at(tracks, last, low, high, t, c, nets::lowest_net(extended))
+    let v = nets::net_of(nets::lowest_net(extended));
+    nets::joint_at(tracks, last, low, high, t, c, v)
 }
 
 // What column c + 1 of a two-pin channel does; starting pins ask for the net of rule 2 and the free tracks, a column without pins for that net.
@@ -55,12 +56,12 @@ fn pair_column(
     extended: &[u64; 8],
     t: usize,
 ) -> Action
-    requires { ⌜ (a .kind ≤ 3) × (b .kind ≤ 3) × (c < 256) × (t ≤ 511) × (length (now tracks) ≡ 512) × Frees t (now tracks) (now free) ⌝ }
+    requires { ⌜ (a .kind ≤ 3) × (b .kind ≤ 3) × (c ≤ 511) × (t ≤ 511) ⌝ }
     requires { ⌜ Kinded a × Kinded b ⌝ }
-    requires { ⌜ LowsAndHighs (now low) (now high) (tracksIn t (now tracks)) ⌝ }
-    requires { ⌜ ((v : ℕ) → Next (now extended) 0 v → v ≤ 256) ⌝ }
-    ensures { λ r. ⌜ ChosenTwo t a b (now (last .entry)) (now (low .entry)) (now (high .entry)) (now (extended .entry))
-        (tracksIn t (now (tracks .entry))) c r ⌝ }
+    ensures { λ r. ⌜ (length (now (tracks .entry)) ≡ 512 → Frees t (now (tracks .entry)) (now (free .entry))
+        → LowsAndHighs (now (low .entry)) (now (high .entry)) (tracksIn t (now (tracks .entry)))
+        → ((v : ℕ) → Next (now (extended .entry)) 0 v → v ≤ 256)
+        → ChosenTwo t a b (now (last .entry)) (now (low .entry)) (now (high .entry)) (now (extended .entry)) (tracksIn t (now (tracks .entry))) c r) ⌝ }
 {
     if (a.net != 0) & (a.net == b.net) {
         return actions::go_full(t as u16 + 1, a.net, 0);
@@ -130,11 +131,12 @@ fn three_column(
     lone: &[u64; 8],
     t: usize,
 ) -> Move
-    requires { ⌜ (a .net ≤ 256) × (b .net ≤ 256) × (c < 256) × (t ≤ 511) × (length (now tracks) ≡ 512) × Frees t (now tracks) (now free) ⌝ }
-    requires { ⌜ LowsAndHighs (now low) (now high) (tracksIn t (now tracks)) ⌝ }
-    requires { ⌜ ((v : ℕ) → Next (now extended) 0 v → v ≤ 256) ⌝ }
-    ensures { λ r. ⌜ ChosenThree t a b (now (last .entry)) (now (low .entry)) (now (high .entry)) (now (extended .entry)) (now (lone .entry))
-        (tracksIn t (now (tracks .entry))) c r ⌝ }
+    requires { ⌜ (a .net ≤ 256) × (b .net ≤ 256) × (c ≤ 511) × (t ≤ 511) ⌝ }
+    ensures { λ r. ⌜ (length (now (tracks .entry)) ≡ 512 → Frees t (now (tracks .entry)) (now (free .entry))
+        → LowsAndHighs (now (low .entry)) (now (high .entry)) (tracksIn t (now (tracks .entry)))
+        → ((v : ℕ) → Next (now (extended .entry)) 0 v → v ≤ 256)
+        → ChosenThree t a b (now (last .entry)) (now (low .entry)) (now (high .entry)) (now (extended .entry)) (now (lone .entry))
+        (tracksIn t (now (tracks .entry))) c r) ⌝ }
 {
     let f = nets::free_tracks(free);
     let n = lowest_joint(tracks, last, low, high, extended, t, c);
@@ -166,22 +168,24 @@ fn many_column(
     wide: &[u64; 8],
     t: usize,
 ) -> Action
-    requires { ⌜ (c < 256) × (t ≤ 511) × (length (now tracks) ≡ 512) × Frees t (now tracks) (now free) ⌝ }
-    requires { ⌜ LowsAndHighs (now low) (now high) (tracksIn t (now tracks)) ⌝ }
-    requires { ⌜ ((v : ℕ) → ToJoin (now extended) (now wide) v → v ≤ 256) ⌝ }
-    ensures { λ r. ⌜ ChosenMany t a b later (now (last .entry)) (now (low .entry)) (now (high .entry)) (now (extended .entry)) (now (wide .entry))
-        (tracksIn t (now (tracks .entry))) c r ⌝ }
+    requires { ⌜ (c ≤ 511) × (t ≤ 511) ⌝ }
+    ensures { λ r. ⌜ (length (now (tracks .entry)) ≡ 512 → Frees t (now (tracks .entry)) (now (free .entry))
+        → LowsAndHighs (now (low .entry)) (now (high .entry)) (tracksIn t (now (tracks .entry)))
+        → ((v : ℕ) → ToJoin (now (extended .entry)) (now (wide .entry)) v → v ≤ 256)
+        → ChosenMany t a b later (now (last .entry)) (now (low .entry)) (now (high .entry)) (now (extended .entry)) (now (wide .entry))
+        (tracksIn t (now (tracks .entry))) c r) ⌝ }
 {
     let f = nets::free_tracks(free);
-    let v = nets::net_to_join(extended, wide);
+    let v = nets::net_of(nets::net_to_join(extended, wide));
     let n = nets::joint_at(tracks, last, low, high, t, c, v);
     many_pin::choose_many(t as u16 + 1, a, b, f, n, later)
 }
 
-// What column c + 1 does, by the sweep of its family.
+// What column c + 1 with the pins p and q (0: none) does, by the sweep of its family. It ends on any arrays; what it promises, it promises of arrays that hold
+// what they should.
 pub(crate) fn column_at(
-    top: &[u16],
-    bottom: &[u16],
+    p: u16,
+    q: u16,
     c: usize,
     first: &[u16; 257],
     last: &[u16; 257],
@@ -197,16 +201,17 @@ pub(crate) fn column_at(
     t: usize,
     family: Family,
 ) -> Move
-    requires { ⌜ c < length (now top) ⌝ }
-    requires { ⌜ Ready (now top) (now bottom) (now first) (now last) t family ⌝ }
-    requires { ⌜ Keeps (now last) t family c (tracksIn t (now tracks)) (now tracks) (now free) (now low) (now high) (now many) (now extended) (now wide) ⌝ }
-    requires { ⌜ Mated family (now mates) (now many) (now mates) (now lone) ⌝ }
-    ensures { λ r. ⌜ r ≡ moveBy t (now (top .entry)) (now (bottom .entry)) c (tracksIn t (now (tracks .entry))) (now (mates .entry)) ⌝ }
+    requires { ⌜ (p ≤ 256) × (q ≤ 256) × (c ≤ 511) × (t ≤ 511) ⌝ }
+    ensures { λ r. ⌜ ((top bottom : List ℕ) → getD top c 0 ≡ p → getD bottom c 0 ≡ q
+        → Ready top bottom (now (first .entry)) (now (last .entry)) t family
+        → Keeps (now (last .entry)) t family c (tracksIn t (now (tracks .entry))) (now (tracks .entry)) (now (free .entry)) (now (low .entry))
+        (now (high .entry)) (now (many .entry)) (now (extended .entry)) (now (wide .entry))
+        → Mated family (now (mates .entry)) (now (many .entry)) (now (mates .entry)) (now (lone .entry))
+        → r ≡ moveBy t top bottom c (tracksIn t (now (tracks .entry))) (now (mates .entry))) ⌝ }
 {
     let k = c as u16;
-    let p = top[c];
     let a = pins::pin_at(first, last, low, high, many, k, p);
-    let b = pins::pin_at(first, last, low, high, many, k, bottom[c]);
+    let b = pins::pin_at(first, last, low, high, many, k, q);
     match family {
         Family::TwoPin => {
             let x = pair_column(a, b, k, tracks, free, last, low, high, extended, t);

@@ -39,6 +39,13 @@ pub(crate) fn next_net(s: &[u64; 8], v: u16) -> u16
     (sets::above(s, v as usize) % 512) as u16
 }
 
+// A net number, 0 where it is over 256.
+pub(crate) fn net_of(v: u16) -> u16
+    ensures { λ r. ⌜ (r ≤ 256) × (v ≤ 256 → r ≡ v) ⌝ }
+{
+    if 256 < v { 0 } else { v }
+}
+
 // The net that rule 2 of a many-pin channel joins.
 pub(crate) fn net_to_join(extended: &[u64; 8], wide: &[u64; 8]) -> u16
     ensures { λ r. ⌜ ToJoin (now (extended .entry)) (now (wide .entry)) r ⌝ }
@@ -52,10 +59,10 @@ pub(crate) fn net_to_join(extended: &[u64; 8], wide: &[u64; 8]) -> u16
 
 // The second lowest strand of a net whose lowest is a and highest b, 0 where there is none.
 fn second_of(tracks: &[u16; 512], a: u16, b: u16, t: usize, v: u16) -> u16
-    requires { ⌜ (t ≤ 511) × (length (now tracks) ≡ 512) × (a ≡ lowest v (tracksIn t (now tracks))) × (b ≡ highest v (tracksIn t (now tracks))) ⌝ }
-    ensures { λ r. ⌜ r ≡ second v (tracksIn t (now (tracks .entry))) ⌝ }
+    ensures { λ r. ⌜ (t ≤ 511 → length (now (tracks .entry)) ≡ 512 → a ≡ lowest v (tracksIn t (now (tracks .entry)))
+        → b ≡ highest v (tracksIn t (now (tracks .entry))) → r ≡ second v (tracksIn t (now (tracks .entry)))) ⌝ }
 {
-    let last = b as usize;
+    let last = (b % 512) as usize;
     let mut y = a as usize;
     let mut k = a;
     while y < last {
@@ -78,10 +85,10 @@ pub(crate) fn joint_at(
     c: u16,
     v: u16,
 ) -> Joint
-    requires { ⌜ (t ≤ 511) × (length (now tracks) ≡ 512) × (c < 256) × (v ≤ 256) ⌝ }
-    requires { ⌜ LowsAndHighs (now low) (now high) (tracksIn t (now tracks)) ⌝ }
-    ensures { λ r. ⌜ r ≡ jointBy (getD (now (last .entry)) v 0) (getD (now (low .entry)) v 0) (second v (tracksIn t (now (tracks .entry))))
-        (getD (now (high .entry)) v 0) c v ⌝ }
+    requires { ⌜ (c ≤ 511) × (v ≤ 256) ⌝ }
+    ensures { λ r. ⌜ (t ≤ 511 → length (now (tracks .entry)) ≡ 512 → LowsAndHighs (now (low .entry)) (now (high .entry)) (tracksIn t (now (tracks .entry)))
+        → r ≡ jointBy (getD (now (last .entry)) v 0) (getD (now (low .entry)) v 0) (second v (tracksIn t (now (tracks .entry))))
+        (getD (now (high .entry)) v 0) c v) ⌝ }
 {
     if v == 0 {
         return Joint {
@@ -154,11 +161,10 @@ fn mark_net(
     v: u16,
     family: Family,
 )
-    requires { ⌜ (v ≤ 256) × MarkedAt (now last) (now many) c (now extended) (now wide) family 0 ⌝ }
-    ensures { λ _. ⌜ MarksNet (now (last .entry)) (now (many .entry)) c family v (now (extended .entry)) (now (wide .entry))
-        (now (extended .exit)) (now (wide .exit)) ⌝ }
+    ensures { λ _. ⌜ (v ≤ 256 → MarkedAt (now (last .entry)) (now (many .entry)) c (now (extended .entry)) (now (wide .entry)) family 0
+        → MarksNet (now (last .entry)) (now (many .entry)) c family v (now (extended .entry)) (now (wide .entry)) (now (extended .exit)) (now (wide .exit))) ⌝ }
 {
-    if v == 0 {
+    if (v == 0) | (256 < v) {
         return;
     }
     let i = v as usize;
@@ -183,9 +189,10 @@ pub(crate) fn mark_three(
     w: u16,
     family: Family,
 )
-    requires { ⌜ (u ≤ 256) × (v ≤ 256) × (w ≤ 256) × MarkedAt (now last) (now many) c (now extended) (now wide) family 0 ⌝ }
-    ensures { λ _. ⌜ MarksThree (now (last .entry)) (now (many .entry)) c family u v w (now (extended .entry)) (now (wide .entry))
-        (now (extended .exit)) (now (wide .exit)) ⌝ }
+    ensures { λ _. ⌜ (u ≤ 256 → v ≤ 256 → w ≤ 256
+        → MarkedAt (now (last .entry)) (now (many .entry)) c (now (extended .entry)) (now (wide .entry)) family 0
+        → MarksThree (now (last .entry)) (now (many .entry)) c family u v w (now (extended .entry)) (now (wide .entry))
+        (now (extended .exit)) (now (wide .exit))) ⌝ }
 {
     let a = pairs::apart(u, v, w);
     mark_net(last, many, extended, wide, c, a, family);

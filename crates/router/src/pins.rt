@@ -10,7 +10,7 @@ ghost use Rattle.router.specs.Working.{pinBy};
 
 // The kind of a pin in column c + 1 by its net's first and last column: 1 starts, 2 continues, 3 ends.
 fn kind_at(first: u16, last: u16, c: u16) -> u16
-    requires { ⌜ c < 256 ⌝ }
+    requires { ⌜ c ≤ 511 ⌝ }
     ensures { λ r. ⌜ r ≡ kindBy (not (eqb first 0) && leb first c) (ltb (c + 1) last) ⌝ }
 {
     if first == 0 {
@@ -32,7 +32,7 @@ pub(crate) fn pin_at(
     c: u16,
     v: u16,
 ) -> Pin
-    requires { ⌜ (c < 256) × (v ≤ 256) ⌝ }
+    requires { ⌜ (c ≤ 511) × (v ≤ 256) ⌝ }
     ensures { λ r. ⌜ r ≡ pinBy (getD (now (first .entry)) v 0) (getD (now (last .entry)) v 0)
         (getD (now (low .entry)) v 0) (getD (now (high .entry)) v 0) (getD (now (many .entry)) v 0) c v ⌝ }
 {
@@ -58,7 +58,7 @@ pub(crate) fn pin_at(
 
 // Whether net v has pins after column c + 1.
 pub(crate) fn later_than(last: &[u16; 257], c: u16, v: u16) -> bool
-    requires { ⌜ (c < 256) × (v ≤ 256) ⌝ }
+    requires { ⌜ (c ≤ 511) × (v ≤ 256) ⌝ }
     ensures { λ r. ⌜ r ≡ ltb (c + 1) (getD (now (last .entry)) v 0) ⌝ }
 {
     let i = v as usize;

@@ -113,8 +113,9 @@ fn write_verticals(part: &mut [u16], t: usize, x: Action)
 
 // Copies the tracks that leave a column behind its vertical edges.
 fn copy_tracks(part: &mut [u16], tracks: &[u16; 512], t: usize)
-    requires { ⌜ (t ≤ 511) × (length (now part) ≡ 2 * t + 1) × (length (now tracks) ≡ 512) ⌝ }
-    ensures { λ _. ⌜ now (part .exit) ≡ take (t + 1) (now (part .entry)) ++ tracksIn t (now (tracks .entry)) ⌝ }
+    requires { ⌜ (t ≤ 511) × (length (now part) ≡ 2 * t + 1) ⌝ }
+    ensures { λ _. ⌜ (length (now (tracks .entry)) ≡ 512
+        → now (part .exit) ≡ take (t + 1) (now (part .entry)) ++ tracksIn t (now (tracks .entry))) ⌝ }
 {
     let mut i = 0;
     while i < t {
@@ -125,8 +126,8 @@ fn copy_tracks(part: &mut [u16], tracks: &[u16; 512], t: usize)
 
 // Writes a column: its vertical edges, and the tracks that leave it.
 fn write_column(part: &mut [u16], tracks: &[u16; 512], t: usize, x: Action)
-    requires { ⌜ (t ≤ 511) × (length (now part) ≡ 2 * t + 1) × (length (now tracks) ≡ 512) ⌝ }
-    ensures { λ _. ⌜ now (part .exit) ≡ verticals t x ++ tracksIn t (now (tracks .entry)) ⌝ }
+    requires { ⌜ (t ≤ 511) × (length (now part) ≡ 2 * t + 1) ⌝ }
+    ensures { λ _. ⌜ (length (now (tracks .entry)) ≡ 512 → now (part .exit) ≡ verticals t x ++ tracksIn t (now (tracks .entry))) ⌝ }
 {
     write_verticals(part, t, x);
     copy_tracks(part, tracks, t);
@@ -134,8 +135,9 @@ fn write_column(part: &mut [u16], tracks: &[u16; 512], t: usize, x: Action)
 
 // Writes a column into its part of a layout, which begins at `at`.
 pub(crate) fn write_at(layout: &mut [u16], at: usize, tracks: &[u16; 512], t: usize, x: Action)
-    requires { ⌜ (t ≤ 511) × (length (now tracks) ≡ 512) × (at + (2 * t + 1) ≤ length (now layout)) ⌝ }
-    ensures { λ _. ⌜ now (layout .exit) ≡ withColumn t at x (tracksIn t (now (tracks .entry))) (now (layout .entry)) ⌝ }
+    requires { ⌜ (t ≤ 511) × (at + (2 * t + 1) ≤ length (now layout)) ⌝ }
+    ensures { λ _. ⌜ (length (now (tracks .entry)) ≡ 512
+        → now (layout .exit) ≡ withColumn t at x (tracksIn t (now (tracks .entry))) (now (layout .entry))) ⌝ }
 {
     let each = 2 * t + 1;
     write_column(&mut layout[at..at + each], tracks, t, x);

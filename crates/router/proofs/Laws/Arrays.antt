@@ -1,13 +1,13 @@
 -- The arrays of the router, as its functions change them.
 use Prim.Native.Nat.{ℕ, zero, suc, _+_, _%_, _≤_, _<_, max, min}
 use mathlib.Core.Path.{_≡_, refl, sym, ap, subst, _∙_}
-use mathlib.Core.Bool.{Bool, true, false}
+use mathlib.Core.Bool.{Bool, true, false, _||_}
 use mathlib.Core.List.{List, []}
 use mathlib.Core.Logic.{_⊎_, inl, inr, ⊎-elim}
 use native.Mathlib.Nat.{le-refl}
 use native.Mathlib.Numerals.{add-one}
 use native.Mathlib.Omega.{arith}
-use lib.Dec.{eqb}
+use lib.Dec.{eqb, ltb}
 use borrow.Author.Tests.{ne-eqb, eqb-true, eqb-false}
 use lib.ListN.{length, take, drop, getD, set, replicate, length-take, length-drop, length-set}
 use lib.Seq.{getD-set-same, getD-set-other, getD-take, getD-drop, ext-getD, drop-set-add, take-set-lt, set-getD}
@@ -16,12 +16,32 @@ use Rattle.grid.specs.Working.{ByNet}
 use Rattle.sweep.specs.Tracks.{strandsFrom, strands, first, last, lowest, highest, many, lesser, clear, give}
 use Rattle.sets.specs.Member.{member, Put}
 use Rattle.sweep.specs.Working.{FreeAt}
-use Rattle.router.specs.Working.{tracksIn, cleared, ClearedFrom, NoneBetween, Frees, Holds, blank}
+use Rattle.router.specs.Working.{tracksIn, cleared, ClearedFrom, NoneBetween, Frees, Among, Ended, Holds, blank}
 use Rattle.grid.proofs.Counting.{zeros}
-use Rattle.grid.proofs.Tests.{before-at-after, below-or}
+use Rattle.grid.proofs.Tests.{before-at-after, below-or, or-false, ltb-false, le-ltb, not-both}
 use Rattle.sweep.proofs.Tracks.After.{length-clear, clear-get}
 use Rattle.sweep.proofs.Tracks.Strands.{between-from, two-strands, many-times}
 use Rattle.sweep.proofs.Tracks.Changed.{cleared-track, cleared-own, cleared-other, clear-idle, some-low, given-other, given-number, given-low, given-high, first-last, last-at-most, number-at-most}
+
+-- ---- numbers of tracks and nets
+
+-- a number up to 511 is its own remainder
+pub own-remainder : (x : ℕ) → x ≤ 511 → x % 512 ≡ x
+own-remainder x h = omega arith
+
+-- by the test for no net number: v is one
+pub net-number : (v : ℕ) → (eqb v 0 || ltb 256 v) ≡ false → (0 < v) × (v ≤ 256)
+net-number v e =
+    let k = or-false (eqb v 0) (ltb 256 v) e in
+    (omega (arith, eqb-false v 0 (k .0)), ltb-false 256 v (k .1))
+
+-- or it is 0, if it is not over 256
+pub no-net : (v : ℕ) → (eqb v 0 || ltb 256 v) ≡ true → v ≤ 256 → v ≡ 0
+no-net v e h = go (eqb v 0) refl
+  where
+    go : (q : Bool) → eqb v 0 ≡ q → v ≡ 0
+    go true p = eqb-true v 0 p
+    go false p = absurd (not-both (sym (ap (λ (q : Bool). q || ltb 256 v) p) ∙ e) (le-ltb 256 v h))
 
 -- ---- the tracks of an array
 
@@ -217,7 +237,7 @@ index-set g xs tr tr′ v x w h keeps e = record { size = length-set xs v x ∙ 
         (before-at-after u v)
 
 -- the arrays once a net's strands are ended
-pub dropped : (t v : ℕ) (d f s g low high number : List ℕ) → 0 < v → v ≤ 256 → Holds t (tracksIn t d) d f low high number
+dropped : (t v : ℕ) (d f s g low high number : List ℕ) → 0 < v → v ≤ 256 → Holds t (tracksIn t d) d f low high number
     → ClearedFrom v (getD low v 0) (getD high v 0 + 1) d s → Frees t s g → Holds t (clear v (tracksIn t d)) s g (set low v 0) (set high v 0) (set number v 0)
 unfolding lowest highest many strands first last
 dropped t v d f s g low high number hv hb h w fr =
@@ -236,7 +256,7 @@ dropped t v d f s g low high number hv hb h w fr =
     }
 
 -- a net with strands: they lie on the tracks
-pub low-high : (t v : ℕ) (d f low high number : List ℕ) → 0 < v → v ≤ 256 → Holds t (tracksIn t d) d f low high number → (getD number v 0 ≡ 0 → ⊥)
+low-high : (t v : ℕ) (d f low high number : List ℕ) → 0 < v → v ≤ 256 → Holds t (tracksIn t d) d f low high number → (getD number v 0 ≡ 0 → ⊥)
     → (0 < getD low v 0) × (getD low v 0 ≤ getD high v 0) × (getD high v 0 ≤ t)
 unfolding lowest highest many strands
 low-high t v d f low high number hv hb h n =
@@ -245,7 +265,7 @@ low-high t v d f low high number hv hb h n =
     (some-low v tr (λ e. n (h .numbers .at v hv hb ∙ e)), first-last 1 v tr, omega (arith, last-at-most 0 v tr, length-tracks t d (h .fits) (h .sized), h .fits))
 
 -- at most two strands: none lies between the lowest and the highest
-pub none-between : (t v : ℕ) (d f low high number : List ℕ) → 0 < v → v ≤ 256 → Holds t (tracksIn t d) d f low high number → getD high v 0 ≤ t
+none-between : (t v : ℕ) (d f low high number : List ℕ) → 0 < v → v ≤ 256 → Holds t (tracksIn t d) d f low high number → getD high v 0 ≤ t
     → getD number v 0 ≤ 2 → NoneBetween v (getD low v 0) (getD high v 0) d
 none-between t v d f low high number hv hb h ht n zero l m e = absurd (omega arith)
 none-between t v d f low high number hv hb h ht n (suc j) l m e =
@@ -253,8 +273,22 @@ none-between t v d f low high number hv hb h ht n (suc j) l m e =
     let k = two-strands v tr (omega (arith, many-times v tr, h .numbers .at v hv hb)) j (omega (arith, length-tracks t d (h .fits) (h .sized))) (tracks-at t d j (omega arith) ∙ e) in
     ⊎-elim (λ x. absurd (omega (arith, h .lows .at v hv hb))) (λ x. absurd (omega (arith, h .highs .at v hv hb))) k
 
+-- the end of a net's strands, as it is asked for, ends them
+pub strands-dropped : (t v : ℕ) (d f s g low high number : List ℕ) → 0 < v → v ≤ 256 → Holds t (tracksIn t d) d f low high number → (getD number v 0 ≡ 0 → ⊥)
+    → (Among t (getD low v 0 % 512) (getD high v 0 % 512) d f → 0 < v → (getD number v 0 ≤ 2 → NoneBetween v (getD low v 0 % 512) (getD high v 0 % 512) d)
+    → Ended t v (getD low v 0 % 512) (getD high v 0 % 512) d s g)
+    → Holds t (clear v (tracksIn t d)) s g (set low v 0) (set high v 0) (set number v 0)
+strands-dropped t v d f s g low high number hv hb h n ends =
+    let b = low-high t v d f low high number hv hb h n in
+    let el : getD low v 0 % 512 ≡ getD low v 0 = own-remainder (getD low v 0) (omega (arith, b .1, b .2, h .fits)) in
+    let eh : getD high v 0 % 512 ≡ getD high v 0 = own-remainder (getD high v 0) (omega (arith, b .2, h .fits)) in
+    let among : Among t (getD low v 0) (getD high v 0) d f =
+    record { low = b .0; order = b .1; high = b .2; fits = h .fits; sized = h .sized; frees = h .frees } in
+    let e = (rw (el, eh) at ends) among hv (none-between t v d f low high number hv hb h (b .2)) in
+    dropped t v d f s g low high number hv hb h (e .cleared) (e .frees)
+
 -- a net has at most 511 strands
-pub number-most : (t v : ℕ) (d f low high number : List ℕ) → 0 < v → v ≤ 256 → Holds t (tracksIn t d) d f low high number → getD number v 0 ≤ 511
+number-most : (t v : ℕ) (d f low high number : List ℕ) → 0 < v → v ≤ 256 → Holds t (tracksIn t d) d f low high number → getD number v 0 ≤ 511
 unfolding many strands
 number-most t v d f low high number hv hb h =
     let tr : List ℕ = tracksIn t d in
@@ -268,17 +302,17 @@ nothing-dropped t v d f low high number hv hb h e =
     rw (clear-idle v tr (inr (sym (many-times v tr) ∙ sym (h .numbers .at v hv hb) ∙ e))) h
 
 -- a free track is one of the tracks
-pub free-below : (k t : ℕ) (d : List ℕ) → t ≤ 511 → length d ≡ 512 → FreeAt k (tracksIn t d) → k ≤ t
+free-below : (k t : ℕ) (d : List ℕ) → t ≤ 511 → length d ≡ 512 → FreeAt k (tracksIn t d) → k ≤ t
 free-below zero t d h e o = omega arith
 free-below (suc y) t d h e o = omega (arith, length-tracks t d h e, o .0)
 
 -- the arrays once a net is given a track
-pub strand-added : (t k v : ℕ) (d f g low high number : List ℕ) (a b c : ℕ) → (k ≡ 0 → ⊥) → (v ≡ 0 → ⊥) → v ≤ 256 → FreeAt k (tracksIn t d) → Holds t (tracksIn t d) d f low high number
+track-given : (t k v : ℕ) (d f g low high number : List ℕ) (a b c : ℕ) → (k ≡ 0 → ⊥) → (v ≡ 0 → ⊥) → v ≤ 256 → FreeAt k (tracksIn t d) → Holds t (tracksIn t d) d f low high number
     → Put f (k % 512) false g → a ≡ lesser (getD low v 0) k → b ≡ max (getD high v 0) k → c ≡ getD number v 0 + 1
     → Holds t (give k v (tracksIn t d)) (set d k v) g (set low v a) (set high v b) (set number v c)
 unfolding lowest highest many strands give
-strand-added t zero v d f g low high number a b c hk hn hb o h pg ea eb ec = absurd (hk refl)
-strand-added t (suc y) v d f g low high number a b c hk hn hb o h pg ea eb ec =
+track-given t zero v d f g low high number a b c hk hn hb o h pg ea eb ec = absurd (hk refl)
+track-given t (suc y) v d f g low high number a b c hk hn hb o h pg ea eb ec =
     let tr : List ℕ = tracksIn t d in
     let hv : 0 < v = omega arith in
     let yt : y < t = omega (arith, length-tracks t d (h .fits) (h .sized), o .0) in
@@ -298,6 +332,15 @@ strand-added t (suc y) v d f g low high number a b c hk hn hb o h pg ea eb ec =
       highs = index-set last high tr (set tr y v) v b (h .highs) hb keeps fb;
       numbers = index-set length number tr (set tr y v) v c (h .numbers) hb keeps fc;
     }
+
+-- so the stores leave them
+pub strand-added : (t k v : ℕ) (d f g low high number : List ℕ) (a b c : ℕ) → (k ≡ 0 → ⊥) → (v ≡ 0 → ⊥) → v ≤ 256 → FreeAt k (tracksIn t d)
+    → Holds t (tracksIn t d) d f low high number → Put f (k % 512 % 512) false g → a ≡ lesser (getD low v 0) k → b ≡ max (getD high v 0) k
+    → c ≡ getD number v 0 % 512 + 1 → Holds t (give k v (tracksIn t d)) (set d (k % 512) v) g (set low v a) (set high v b) (set number v c)
+strand-added t k v d f g low high number a b c hk hn hb o h pg ea eb ec =
+    let ek : k % 512 ≡ k = own-remainder k (omega (arith, free-below k t d (h .fits) (h .sized) o, h .fits)) in
+    let en : getD number v 0 % 512 ≡ getD number v 0 = own-remainder (getD number v 0) (number-most t v d f low high number (omega arith) hb h) in
+    rw ek (track-given t k v d f g low high number a b c hk hn hb o h (rw ek at pg) ea eb (ec ∙ ap (λ (z : ℕ). z + 1) en))
 
 -- no track, or no net: nothing changes
 pub give-none : (k v : ℕ) (tr : List ℕ) → (k ≡ 0) ⊎ (v ≡ 0) → FreeAt k tr → give k v tr ≡ tr

@@ -61,12 +61,12 @@ module _ (top bottom : List ℕ) (ok : rowsRefused top bottom 256 ≡ 0) where
           rw (ne-eqb (suc v) 0 (λ e. omega arith), table-at (lastColumn top bottom) (suc v) (omega arith) b) (goes-on top bottom (suc v) (λ e. omega arith) (fit .same) c)
 
   -- what the sweep goes by, from the figures that the row check found
-  ready : {t : ℕ} {p : Family} {first last : List ℕ} → t ≡ tracks top bottom → p ≡ family top bottom → first ≡ table (firstColumn top bottom) → last ≡ table (lastColumn top bottom)
+  pub ready : {t : ℕ} {p : Family} {first last : List ℕ} → t ≤ 511 → p ≡ family top bottom → first ≡ table (firstColumn top bottom) → last ≡ table (lastColumn top bottom)
       → Ready top bottom first last t p
-  ready {t} {p} {first} {last} et ep ef el =
+  ready {t} {p} {first} {last} few ep ef el =
       record {
         is = sym ep;
-        fits = omega (arith, tracks-small top bottom);
+        fits = few;
         rows = sym (fit .same);
         most = rows-short top bottom 256 ok;
         tops = small-in top (λ v h. omega (arith, none v h));
@@ -88,7 +88,7 @@ module _ (top bottom : List ℕ) (ok : rowsRefused top bottom 256 ≡ 0) where
   -- what the sweep, dry or drawn, asks for
   pub sweep-ready : {t : ℕ} {p : Family} {first last : List ℕ} → t ≡ tracks top bottom → p ≡ family top bottom → first ≡ table (firstColumn top bottom) → last ≡ table (lastColumn top bottom)
       → Ready top bottom first last t p × (EachFits t top bottom × (Drawing.width t top bottom ≤ length top + t / 2))
-  sweep-ready et ep ef el = (ready et ep ef el, (each-fits et, added-half et))
+  sweep-ready et ep ef el = (ready (omega (arith, tracks-small top bottom)) ep ef el, (each-fits et, added-half et))
 
 -- ---- the calls' promises
 

@@ -9,7 +9,7 @@ use native.Mathlib.Omega.{arith}
 use native.Mathlib.Decide.{ℕ-discrete}
 use lib.Dec.{eqb, ltb}
 use borrow.Author.Tests.{eqb-true, eqb-false}
-use lib.ListN.{length, getD, List·getD-eq-default}
+use lib.ListN.{getD, List·getD-eq-default}
 use Rattle.grid.proofs.Rows.{right-suc}
 use Rattle.grid.proofs.Tests.{eqb-diff, and-none, below-or}
 use Rattle.grid.specs.declared.Family.{Family}
@@ -49,12 +49,12 @@ number-stays top bottom c x {t} {a} {f} {l} {h} {n} {a′} {f′} {l′} {h′} 
 
 module _ (top bottom last : List ℕ) (c : ℕ) (x : Move) {t : ℕ} {a f l h n a′ f′ l′ h′ n′ s w : List ℕ} {fam : Family} where
   -- a net that the column does not touch is still marked as it is
-  marked-stays : RowsAndLasts top bottom last → c < length top
+  marked-stays : RowsAndLasts top bottom last
       → Holds t (tracksIn t a) a f l h n → Fitting top bottom c x (tracksIn t a) → Holds t (after (x .action) (tracksIn t a)) a′ f′ l′ h′ n′
       → (j : ℕ) → (j ≡ x .action .ended → ⊥) → (j ≡ getD top c 0 → ⊥) → (j ≡ getD bottom c 0 → ⊥) → MarkedAt last n c s w fam j → MarkedAt last n′ (c + 1) s w fam j
   unfolding extendedBy wideBy
-  marked-stays sp cl H ax H′ zero d p q r = zero-marked last n n′ c (c + 1) s w fam r
-  marked-stays sp cl H ax H′ (suc j) d p q r = ⊎-elim small large (below-or (suc j) 257)
+  marked-stays sp H ax H′ zero d p q r = zero-marked last n n′ c (c + 1) s w fam r
+  marked-stays sp H ax H′ (suc j) d p q r = ⊎-elim small large (below-or (suc j) 257)
     where
       small : suc j < 257 → MarkedAt last n′ (c + 1) s w fam (suc j)
       small b =
@@ -75,10 +75,10 @@ module _ (top bottom last : List ℕ) (c : ℕ) (x : Move) {t : ℕ} {a f l h n 
           }
 
   -- each net is one of the three that the column marks, or it is marked already
-  marked-next : RowsAndLasts top bottom last → c < length top
+  marked-next : RowsAndLasts top bottom last
       → Holds t (tracksIn t a) a f l h n → Fitting top bottom c x (tracksIn t a) → Holds t (after (x .action) (tracksIn t a)) a′ f′ l′ h′ n′
       → Marked last n c s w fam → (j : ℕ) → (j ≡ x .action .ended) ⊎ ((j ≡ getD top c 0) ⊎ ((j ≡ getD bottom c 0) ⊎ MarkedAt last n′ (c + 1) s w fam j))
-  marked-next sp cl H ax H′ so j = go (eqb j (x .action .ended)) (eqb j (getD top c 0)) (eqb j (getD bottom c 0)) refl refl refl
+  marked-next sp H ax H′ so j = go (eqb j (x .action .ended)) (eqb j (getD top c 0)) (eqb j (getD bottom c 0)) refl refl refl
     where
       go : (p q r : Bool) → eqb j (x .action .ended) ≡ p → eqb j (getD top c 0) ≡ q → eqb j (getD bottom c 0) ≡ r
           → (j ≡ x .action .ended) ⊎ ((j ≡ getD top c 0) ⊎ ((j ≡ getD bottom c 0) ⊎ MarkedAt last n′ (c + 1) s w fam j))
@@ -86,58 +86,80 @@ module _ (top bottom last : List ℕ) (c : ℕ) (x : Move) {t : ℕ} {a f l h n 
       go false true r e g k = inr (inl (eqb-true j (getD top c 0) g))
       go false false true e g k = inr (inr (inl (eqb-true j (getD bottom c 0) k)))
       go false false false e g k =
-          inr (inr (inr (marked-stays sp cl H ax H′ j (eqb-false j (x .action .ended) e) (eqb-false j (getD top c 0) g) (eqb-false j (getD bottom c 0) k) (so j))))
+          inr (inr (inr (marked-stays sp H ax H′ j (eqb-false j (x .action .ended) e) (eqb-false j (getD top c 0) g) (eqb-false j (getD bottom c 0) k) (so j))))
 
   -- the arrays and sets after the column, k its number, once its three nets are marked
-  pub settled : (k : ℕ) {s′ w′ : List ℕ} → k ≡ c + 1 → RowsAndLasts top bottom last → c < length top
+  settled : (k : ℕ) {s′ w′ : List ℕ} → k ≡ c + 1 → RowsAndLasts top bottom last
       → Keeps last t fam c (tracksIn t a) a f l h n s w → Fitting top bottom c x (tracksIn t a)
       → Holds t (after (x .action) (tracksIn t a)) a′ f′ l′ h′ n′ → MarksThree last n′ k fam (x .action .ended) (getD top c 0) (getD bottom c 0) s w s′ w′
       → Keeps last t fam (c + 1) (after (x .action) (tracksIn t a)) a′ f′ l′ h′ n′ s′ w′
-  settled k {s′} {w′} ek sp cl K ax H′ E =
+  settled k {s′} {w′} ek sp K ax H′ E =
       record {
         holds = H′;
         marked = λ j.
             subst (λ (z : ℕ). MarksThree last n′ z fam (x .action .ended) (getD top c 0) (getD bottom c 0) s w s′ w′) ek E j
-            (marked-next sp cl (K .holds) ax H′ (K .marked) j);
+            (marked-next sp (K .holds) ax H′ (K .marked) j);
       }
+
+  -- and so with the column's pins u and v given as numbers
+  pub settled-pins : (k u v : ℕ) {s′ w′ : List ℕ} → k ≡ c + 1 → getD top c 0 ≡ u → getD bottom c 0 ≡ v → RowsAndLasts top bottom last
+      → Keeps last t fam c (tracksIn t a) a f l h n s w → Fitting top bottom c x (tracksIn t a)
+      → Holds t (after (x .action) (tracksIn t a)) a′ f′ l′ h′ n′ → MarksThree last n′ k fam (x .action .ended) u v s w s′ w′
+      → Keeps last t fam (c + 1) (after (x .action) (tracksIn t a)) a′ f′ l′ h′ n′ s′ w′
+  settled-pins k u v {s′} {w′} ek eu ev sp K ax H′ E =
+      settled k ek sp K ax H′
+      (subst (λ (z : ℕ). MarksThree last n′ k fam (x .action .ended) z (getD bottom c 0) s w s′ w′) (sym eu)
+      (subst (λ (z : ℕ). MarksThree last n′ k fam (x .action .ended) u z s w s′ w′) (sym ev) E))
 
 -- THE PAIRS
 module _ (top bottom : List ℕ) (c : ℕ) (x : Move) {t : ℕ} {a f l h n a′ f′ l′ h′ n′ m mates q : List ℕ} {fam : Family} where
-  -- of the nets that the column does not touch the set of the unpaired double nets still tells
-  pub others-told : Mated fam m n mates q → Holds t (tracksIn t a) a f l h n → Fitting top bottom c x (tracksIn t a) → Holds t (after (x .action) (tracksIn t a)) a′ f′ l′ h′ n′
-      → forms fam ≡ true → OthersTold n′ mates q (x .action .ended) (getD top c 0) (getD bottom c 0)
+  -- of the nets that the column, with the pins u and v, does not touch the set of the unpaired double nets still tells
+  pub others-told : (u v : ℕ) → getD top c 0 ≡ u → getD bottom c 0 ≡ v → Mated fam m n mates q → Holds t (tracksIn t a) a f l h n
+      → Fitting top bottom c x (tracksIn t a) → Holds t (after (x .action) (tracksIn t a)) a′ f′ l′ h′ n′
+      → forms fam ≡ true → OthersTold n′ mates q (x .action .ended) u v
   unfolding loneBy
-  others-told M H ax H′ e = record { small = M .small e; none = M .lone e 0; others = λ j d p r. M .lone e j ∙ same j d p r (ℕ-discrete j 0) }
+  others-told u v eu ev M H ax H′ e =
+      subst (λ (z : ℕ). OthersTold n′ mates q (x .action .ended) z v) eu
+      (subst (λ (z : ℕ). OthersTold n′ mates q (x .action .ended) (getD top c 0) z) ev
+      (record { small = M .small e; none = M .lone e 0; others = λ j d p r. M .lone e j ∙ same j d p r (ℕ-discrete j 0) }))
     where
       same : (j : ℕ) → j ≢ x .action .ended → j ≢ getD top c 0 → j ≢ getD bottom c 0 → Dec (j ≡ 0) → loneBy n mates j ≡ loneBy n′ mates j
       same j d p r (yes z) = rw z refl
       same j d p r (no z) = ap (λ (k : ℕ). not (eqb j 0) && (eqb k 2 && eqb (getD mates j 0) 0)) (sym (number-stays top bottom c x H ax H′ j z d p r))
 
--- the mates after the column
-pub mates-settled : (top bottom last : List ℕ) (c k : ℕ) (x : Move) (number m mates q q′ : List ℕ) → k ≡ c + 1 → RowsAndLasts top bottom last
-    → (x .action .ended ≤ 256) × (x .double ≤ 256) × (x .single ≤ 256) → OthersTold number m q (x .action .ended) (getD top c 0) (getD bottom c 0)
-    → mates ≡ renewed last k (getD top c 0) (getD bottom c 0) (x .double) (x .single) m
-    → (Numbers (x .action .ended) (getD top c 0) (getD bottom c 0) (x .double) (x .single) m → MarksAllLone number m mates (x .action .ended) (getD top c 0) (getD bottom c 0) q q′)
+-- the mates after the column, k its number and u and v its pins
+pub mates-settled : (top bottom last : List ℕ) (c k u v : ℕ) (x : Move) (number m mates q q′ : List ℕ) → k ≡ c + 1 → getD top c 0 ≡ u → getD bottom c 0 ≡ v
+    → RowsAndLasts top bottom last → (x .action .ended ≤ 256) × (x .double ≤ 256) × (x .single ≤ 256) → OthersTold number m q (x .action .ended) u v
+    → mates ≡ renewed last k u v (x .double) (x .single) m
+    → (Numbers (x .action .ended) u v (x .double) (x .single) m → MarksAllLone number m mates (x .action .ended) u v q q′)
     → PairsSettled top bottom c x number m mates q′
-mates-settled top bottom last c k x number m mates q q′ ek r b o em tells = record {
+mates-settled top bottom last c k u v x number m mates q q′ ek eu ev r b o em tells = record {
   is = em ∙ renewed-is;
-  small = λ j. subst (λ (z : List ℕ). getD z j 0 ≤ 256) (sym em) (small-renewed 256 last m k (getD top c 0) (getD bottom c 0) (x .double) (x .single) j (b .1) (b .2) (o .small));
+  small = λ j. subst (λ (z : List ℕ). getD z j 0 ≤ 256) (sym em) (small-renewed 256 last m k u v (x .double) (x .single) j (b .1) (b .2) (o .small));
   lone = tells (record {
     ended = omega (arith, b .0);
-    above = omega (arith, r .tops c);
-    below = omega (arith, r .bottoms c);
+    above = omega (arith, above);
+    below = omega (arith, below);
     double = omega (arith, b .1);
     single = omega (arith, b .2);
     mates = λ j. omega (arith, o .small j);
   }) (o .none) (o .others);
 }
   where
-    ending-is : (v : ℕ) → v ≤ 256 → endingBy last k v ≡ endingAt top bottom c v
-    ending-is v h = unfold endingBy endingAt in ap (λ (z : Bool). pick z 0 v) (ap (λ (i : ℕ). ltb i (getD last v 0)) (ek ∙ add-one c) ∙ sym (r .lasts (suc c) v h))
+    above : u ≤ 256
+    above = subst (λ (z : ℕ). z ≤ 256) eu (r .tops c)
 
-    renewed-is : renewed last k (getD top c 0) (getD bottom c 0) (x .double) (x .single) m ≡ matesAfter top bottom c x m
+    below : v ≤ 256
+    below = subst (λ (z : ℕ). z ≤ 256) ev (r .bottoms c)
+
+    ending-is : (i : ℕ) → i ≤ 256 → endingBy last k i ≡ endingAt top bottom c i
+    ending-is i h = unfold endingBy endingAt in
+        ap (λ (z : Bool). pick z 0 i) (ap (λ (j : ℕ). ltb j (getD last i 0)) (ek ∙ add-one c) ∙ sym (r .lasts (suc c) i h))
+
+    renewed-is : renewed last k u v (x .double) (x .single) m ≡ matesAfter top bottom c x m
     renewed-is = unfold renewed matesAfter in
-        ap₂ (λ (i j : ℕ). pairUp (x .double) (x .single) (unpair j (unpair i m))) (ending-is (getD top c 0) (r .tops c)) (ending-is (getD bottom c 0) (r .bottoms c))
+        ap₂ (λ (i j : ℕ). pairUp (x .double) (x .single) (unpair j (unpair i m))) (ending-is u above ∙ ap (endingAt top bottom c) (sym eu))
+        (ending-is v below ∙ ap (endingAt top bottom c) (sym ev))
 
 -- where pairs are formed
 pub mated-next : {top bottom : List ℕ} {c : ℕ} {x : Move} {n m mates q : List ℕ} (fam : Family) → (forms fam ≡ true → PairsSettled top bottom c x n m mates q)

@@ -8,7 +8,6 @@ use native.Mathlib.Numerals.{add-one}
 use native.Mathlib.Omega.{arith}
 use lib.ListN.{length, take, drop, length-append}
 use lib.Seq.{take-at, drop-at, drop-drop}
-use Rattle.grid.proofs.Views.{product-le}
 use Rattle.grid.specs.declared.Family.{Family}
 use Rattle.grid.specs.declared.Family.the-variants.{TwoPin, ThreePin, ManyPin}
 use Rattle.grid.specs.Channel.{pick, family}
@@ -25,10 +24,6 @@ use Rattle.router.proofs.Laws.Arrays.{own, length-tracks}
 -- one column more fits
 pub fits-next : (n i each : ℕ) → i < n → i * each + each ≤ n * each
 fits-next n i each h = subst (λ (x : ℕ). x ≤ n * each) (suc-mul i each) (mul-le-mul-right each h)
-
--- and the columns are few
-pub columns-small : (n i t : ℕ) → i < n → n ≤ 256 → t ≤ 511 → i * (2 * t + 1) + (2 * t + 1) ≤ 522753
-columns-small n i t h b k = omega (arith, fits-next n i (2 * t + 1) h, product-le n (2 * t + 1) (omega arith) (omega arith))
 
 -- where the next column begins
 pub at-next : (at i each : ℕ) → at ≡ i * each → at + each ≡ (i + 1) * each

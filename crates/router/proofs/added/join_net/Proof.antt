@@ -35,21 +35,25 @@ mul-write-at-2 c = search needs
 write-at-requires : tie.Need-write-at-requires
 write-at-requires c κs =
     let o = c .before .before .before .before .before .before .before .before .before .before .before .before in
-    (o .pre .1 .0 .fits, c .before .before .drop-net .ensures .sized, o .pre .1 .1)
+    (o .pre .1 .0 .fits, o .pre .1 .1)
 
 same-length : tie.Need-same-length
 same-length c = search needs
 
 returns : tie.Need-returns
 returns c =
-    let o = c .before .before .before .before .before .before .before .before .before .before .before .before .before .before .before in
-    let j = c .before .before .before .before .before .before .before .before .before .before .before .join-strands in
-    let h = o .pre .1 .0 in
-    let d = c .before .before .before .before .before .drop-net in (
-      d .ensures,
-      joining-written (o .args .t) (o .args .tracks .now) (o .args .v) (o .args .w) (o .args .layout .now) _ (j .result)
-          (joining-is (tracksIn (o .args .t) (o .args .tracks .now)) (o .args .v) _ _ (j .result) (j .ensures) (h .lows .at (o .args .v) (o .pre .0 .0) (o .pre .0 .1)) (h .highs .at (o .args .v) (o .pre .0 .0) (o .pre .0 .1))) (d .ensures)
-          (c .before .before .write-at .ensures),
+    let j = c .before .before .before .before .before .before .before .before .before .before .before in
+    let s = j .before .before .before .before in
+    let o = s .args in
+    let b = s .pre .0 in
+    let h = s .pre .1 .0 in
+    let d = c .before .before .before .before .before .drop-net .ensures (b .1) h in
+    let x = j .join-strands in (
+      d,
+      joining-written (o .t) (o .tracks .now) (o .v) (o .w) (o .layout .now) _ (x .result)
+          (joining-is (tracksIn (o .t) (o .tracks .now)) (o .v) _ _ (x .result) (x .ensures) (h .lows .at (o .v) (b .0) (b .1))
+          (h .highs .at (o .v) (b .0) (b .1)))
+          d (c .before .before .write-at .ensures (d .sized)),
     )
 
 pub join-net-spec : {M : Type 1} → statement M

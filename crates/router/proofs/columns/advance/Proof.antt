@@ -6,37 +6,24 @@ use Rattle.router.proofs.columns.advance.Statement.{statement}
 use Rattle.router.proofs.columns.advance.Tie as tie
 
 column-at-requires : tie.Need-column-at-requires
-column-at-requires c κs =
-    let o = c .before .before .before .before .before .before .before .before .before .before .before in
-    let g = o .pre .1 .1 .1 in
-    (o .pre .0, (o .pre .1 .0, (Steps.keeps-own (g .keeps), Steps.mated-own (g .mated))))
+column-at-requires c κs = c .before .before .before .before .before .before .before .before .before .pre
 
 settle-requires : tie.Need-settle-requires
 settle-requires c κs =
-    let o = c .before .before .before .before .before .before .before .before .before .before .before .before .before .before .before .before .before .before .before .before .before in
-    let x = c .before .before .before .before .before .before .before .before .before .column-at in
-    let g = o .pre .1 .1 .1 in (
-      o .pre .0,
-      (
-        Steps.rows-and-lasts (o .pre .1 .0),
-        (
-          Steps.keeps-own (g .keeps),
-          (
-            Steps.mated-own (g .mated),
-            Steps.fitting-at (o .args .top .now) (o .args .bottom .now) (o .args .c) (x .result) g (o .pre .1 .0 .is) (x .ensures) (o .pre .1 .1 .0),
-          ),
-        ),
-      ),
-    )
+    let x = c .before .before .before .before .before .before .before .before .before in
+    x .before .before .before .before .before .before .before .before .before .before .pre .2
 
 returns : tie.Need-returns
-returns c =
-    let o = c .before .before .before .before .before .before .before .before .before .before .before .before .before .before .before .before .before .before .before .before .before .before .before in
-    let x = c .before .before .before .before .before .before .before .before .before .before .before .column-at in
-    let s = c .before .settle in
-    let g = o .pre .1 .1 .1 in (
-      ap (λ (z : Move). z .action) (Steps.move-at (o .args .top .now) (o .args .bottom .now) (o .args .c) (x .result) g (o .pre .1 .0 .is) (x .ensures)),
-      Steps.at-gap-next (o .args .top .now) (o .args .bottom .now) (o .args .c) (x .result) g (o .pre .1 .0 .is) (x .ensures) (s .ensures .0) (s .ensures .1),
+returns c top bottom ep eq r f g =
+    let p = c .before .before .before .before .before .before .before .before .before .before .before in
+    let i = p .before .before .before .before .before .before .before .before .before .before .args .c in
+    let x = p .column-at in
+    let k = Steps.keeps-own (g .keeps) in
+    let m = Steps.mated-own (g .mated) in
+    let e = x .ensures top bottom ep eq r k m in
+    let s = c .before .settle .ensures top bottom ep eq (Steps.rows-and-lasts r) k m (Steps.fitting-at top bottom i (x .result) g (r .is) e f) in (
+      ap (λ (z : Move). z .action) (Steps.move-at top bottom i (x .result) g (r .is) e),
+      Steps.at-gap-next top bottom i (x .result) g (r .is) e (s .0) (s .1),
     )
 
 pub advance-spec : {M : Type 1} → statement M

@@ -1,87 +1,42 @@
--- `settle` meets its contract: the sets by `settled`, the pairs by `mated-next`.
+-- `settle` meets its contract: the sets by `settled-pins`, the pairs by `mated-next`.
 use Rattle.router.proofs.Laws.Marking
-use mathlib.Core.Path.{refl}
-use Prim.Native.Nat.{_+_}
+use mathlib.Core.Path.{refl, subst}
+use Prim.Native.Nat.{ℕ, _+_, _≤_}
 use native.Mathlib.Omega.{arith}
+use borrow.Author.Needs.{needs}
 use Rattle.router.proofs.columns.settle.Statement.{statement}
 use Rattle.router.proofs.columns.settle.Tie as tie
 
 apply-requires : tie.Need-apply-requires
-apply-requires c κs =
-    let o = c .before .before .before .before .before .before .before .before in
-    (o .pre .1 .1 .1 .1 .applies, o .pre .1 .1 .0 .holds)
+apply-requires c κs = search needs
 
 cast-k : tie.Need-cast-k
-cast-k c =
-    let o = c .before .before .before .before .before .before .before .before .before in
-    omega (arith, o .pre .0, o .pre .1 .0 .most)
+cast-k c = omega (arith, c .before .before .before .before .before .before .before .pre)
 
 add-k : tie.Need-add-k
-add-k c =
-    let o = c .before .before .before .before .before .before .before .before .before in
-    omega (arith, o .pre .0, o .pre .1 .0 .most)
-
-mul-mark-three : tie.Need-mul-mark-three
-mul-mark-three c =
-    let o = c .before .before .before .before .before .before .before .before .before .before .before .before in
-    omega (arith, o .pre .0, o .pre .1 .0 .most)
-
-shared-slice-read-mark-three : tie.Need-shared-slice-read-mark-three
-shared-slice-read-mark-three c = c .before .before .before .before .before .before .before .before .before .before .before .before .before .pre .0
-
-mul-mark-three-2 : tie.Need-mul-mark-three-2
-mul-mark-three-2 c =
-    let o = c .before .before .before .before .before .before .before .before .before .before .before .before .before in
-    omega (arith, o .pre .0, o .pre .1 .0 .most)
-
-shared-slice-read-mark-three-2 : tie.Need-shared-slice-read-mark-three-2
-shared-slice-read-mark-three-2 c =
-    let o = c .before .before .before .before .before .before .before .before .before .before .before .before .before .before in
-    omega (arith, o .pre .0, o .pre .1 .0 .rows)
+add-k c = omega (arith, c .before .before .before .before .before .before .before .pre)
 
 mark-three-requires : tie.Need-mark-three-requires
-mark-three-requires c κs =
-    let o = c .before .before .before .before .before .before .before .before .before .before .before .before .before .before in
-    let r = o .pre .1 .0 in (
-      o .pre .1 .1 .1 .1 .applies .ended,
-      r .tops (o .args .c),
-      r .bottoms (o .args .c),
-      Marking.zero-marked (o .args .last .now) (o .args .many .now) _ (o .args .c) (o .args .c + 1) (o .args .extended .now) (o .args .wide .now) (o .args .family) (o .pre .1 .1 .0 .marked 0),
-    )
+mark-three-requires c κs = search needs
 
 settle-pairs-requires : tie.Need-settle-pairs-requires
-settle-pairs-requires c κs =
-    let o = c .before .before .before .before .before .before .before .before .before .before .before .before .before .before .before .before .before .before in
-    let g = o .pre .1 .1 .1 .1 in (
-      o .pre .0,
-      (
-        o .pre .1 .0,
-        (
-          (g .applies .ended, g .double, g .single),
-          Marking.others-told (o .args .top .now) (o .args .bottom .now) (o .args .c) (o .args .x) (o .pre .1 .1 .1 .0) (o .pre .1 .1 .0 .holds) g (c .before .before .before .before .before .before .before .before .before .apply .ensures),
-        ),
-      ),
-    )
+settle-pairs-requires c κs = c .before .before .before .before .before .before .before .before .before .before .before .before .before .before .pre
 
 returns : tie.Need-returns
-returns c =
-    let o = c .before .before .before .before .before .before .before .before .before .before .before .before .before .before .before .before .before .before .before in (
-      Marking.settled (o .args .top .now) (o .args .bottom .now) (o .args .last .now) (o .args .c) (o .args .x) (o .args .c + 1) refl (o .pre .1 .0) (o .pre .0) (o .pre .1 .1 .0) (o .pre .1 .1 .1 .1)
-          (c .before .before .before .before .before .before .before .before .before .before .apply .ensures) (c .before .before .before .before .mark-three .ensures),
-      Marking.mated-next (o .args .family) (c .settle-pairs .ensures),
+returns c top bottom ep eq r k m g =
+    let p = c .before .before .before .before .before .before .before .before in
+    let a = p .before .before .before .before .before .before .before .args in
+    let h = p .apply .ensures (g .applies) (k .holds) in
+    let z = Marking.zero-marked (a .last .now) (a .many .now) _ (a .c) (a .c + 1) (a .extended .now) (a .wide .now) (a .family) (k .marked 0) in
+    let above = subst (λ (y : ℕ). y ≤ 256) ep (r .tops (a .c)) in
+    let below = subst (λ (y : ℕ). y ≤ 256) eq (r .bottoms (a .c)) in (
+      Marking.settled-pins top bottom (a .last .now) (a .c) (a .x) (a .c + 1) (a .p) (a .q) refl ep eq r k g h
+          (c .before .before .before .before .mark-three .ensures (g .applies .ended) above below z),
+      Marking.mated-next (a .family)
+          (λ e. c .settle-pairs .ensures top bottom ep eq r (g .applies .ended, g .double, g .single) e
+          (Marking.others-told top bottom (a .c) (a .x) (a .p) (a .q) ep eq m (k .holds) g h e)),
     )
 
 pub settle-spec : {M : Type 1} → statement M
 settle-spec =
-    tie.close
-    (tie.spec
-    apply-requires
-    cast-k
-    add-k
-    mul-mark-three
-    shared-slice-read-mark-three
-    mul-mark-three-2
-    shared-slice-read-mark-three-2
-    mark-three-requires
-    settle-pairs-requires
-    returns)
+    tie.close (tie.spec apply-requires cast-k add-k mark-three-requires settle-pairs-requires returns)

@@ -23,15 +23,15 @@ insert-requires c κs = search needs
 
 returns : tie.Need-returns
 returns c =
-    let o = c .before .before .before .before in (
+    let o = c .before .before .before .before .args in (
       rw (eq-eqb _ _ (c .before .before .if1 .taken)) refl,
-      Arrays.frees-put (o .args .t) (o .args .y) 0 (o .args .tracks .now) (o .args .free .now) _ (o .pre .4) (o .pre .0) (o .pre .1) (o .pre .2) (o .pre .3) (c .insert .ensures),
+      λ m. Arrays.frees-put (o .t) (o .y) 0 (o .tracks .now) (o .free .now) _ (m .frees) (m .low) (m .high) (m .fits) (m .sized) (c .insert .ensures),
     )
 
 returns-2 : tie.Need-returns-2
 returns-2 c =
-    let o = c .before .before in
-    (Arrays.kept-track (o .args .net) (o .args .y) (o .args .tracks .now) (c .if1 .left), o .pre .4)
+    let o = c .before .before .args in
+    (Arrays.kept-track (o .net) (o .y) (o .tracks .now) (c .if1 .left), λ m. m .frees)
 
 pub end-at-spec : {M : Type 1} → statement M
 end-at-spec =

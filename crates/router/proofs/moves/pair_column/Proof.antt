@@ -20,7 +20,7 @@ go-full-requires c κs = search needs
 
 returns : tie.Need-returns
 unfolding TwoPin.chooseTwo
-returns c N j =
+returns c e fr g small N j =
     let o = c .before .before .before .before .before in
     simp (one-net (o .args .a .net) (o .args .b .net) (c .before .if1 .taken), c .before .if1 .taken) (c .go-full .ensures _ refl)
 
@@ -35,8 +35,7 @@ join-alone-requires c κs = search needs
 
 lowest-joint-requires : tie.Need-lowest-joint-requires
 lowest-joint-requires c κs =
-    let o = c .before .before .before .before .before .before .before in
-    ((o .pre .0 .3, o .pre .0 .4, o .pre .0 .2), o .pre .1 .1)
+    c .before .before .before .before .before .before .before .pre .0 .2
 
 bottom-starts-requires : tie.Need-bottom-starts-requires
 bottom-starts-requires c κs = search needs
@@ -46,21 +45,18 @@ bottom-ends-requires c κs = search needs
 
 lowest-joint-requires-2 : tie.Need-lowest-joint-requires-2
 lowest-joint-requires-2 c κs =
-    let o = c .before .before .before .before .before .before .before in
-    ((o .pre .0 .3, o .pre .0 .4, o .pre .0 .2), o .pre .1 .1)
+    c .before .before .before .before .before .before .before .pre .0 .2
 
 top-starts-requires : tie.Need-top-starts-requires
 top-starts-requires c κs = search needs
 
 lowest-joint-requires-3 : tie.Need-lowest-joint-requires-3
 lowest-joint-requires-3 c κs =
-    let o = c .before .before .before .before .before .before .before in
-    ((o .pre .0 .3, o .pre .0 .4, o .pre .0 .2), o .pre .1 .1)
+    c .before .before .before .before .before .before .before .pre .0 .2
 
 lowest-joint-requires-4 : tie.Need-lowest-joint-requires-4
 lowest-joint-requires-4 c κs =
-    let o = c .before .before .before .before .before .before .before in
-    ((o .pre .0 .3, o .pre .0 .4, o .pre .0 .2), o .pre .1 .1)
+    c .before .before .before .before .before .before .before .pre .0 .2
 
 both-start-requires : tie.Need-both-start-requires
 both-start-requires c κs = search needs
@@ -81,72 +77,75 @@ go-straight-requires : tie.Need-go-straight-requires
 go-straight-requires c κs = search needs
 
 returns-2 : tie.Need-returns-2
-returns-2 c N j =
+returns-2 c e fr g small N j =
     let o = c .before .before .before .before .before .before .before .before .before in
-    simp (no-kinds-none (o .args .a) (o .args .b) (o .pre .1 .0 .0) (o .pre .1 .0 .1) (c .before .before .match .keys1))
-    (c .join-alone .ensures ∙ ap joinAlone (c .before .lowest-joint .ensures N j))
+    simp (no-kinds-none (o .args .a) (o .args .b) (o .pre .1 .0) (o .pre .1 .1) (c .before .before .match .keys1))
+    (c .join-alone .ensures ∙ ap joinAlone (c .before .lowest-joint .ensures (o .pre .0 .3) e g small N j))
 
 returns-3 : tie.Need-returns-3
 unfolding TwoPin.byKinds Rules.kindOf
-returns-3 c N j =
+returns-3 c e fr g small N j =
     let o = c .before .before .before .before .before .before .before .before .before in
-    simp (kinds-some (o .args .a) (o .args .b) (o .pre .1 .0 .0) (o .pre .1 .0 .1) (λ z. omega (arith, c .before .before .match .keys2)))
-    (by-number (o .args .a) (o .args .b) _ N _ 1 (c .before .before .before .before .before .if1 .left) (c .before .before .match .keys2) (o .pre .0 .0, o .pre .0 .1) (cc (c .bottom-starts .ensures (o .args .t) (o .args .tracks .now) (o .pre .0 .3) (o .pre .0 .4) (o .pre .0 .5), c .before .lowest-joint2 .ensures N j)))
+    simp (kinds-some (o .args .a) (o .args .b) (o .pre .1 .0) (o .pre .1 .1) (λ z. omega (arith, c .before .before .match .keys2)))
+    (by-number (o .args .a) (o .args .b) _ N _ 1 (c .before .before .before .before .before .if1 .left) (c .before .before .match .keys2) (o .pre .0 .0, o .pre .0 .1)
+    (cc (c .bottom-starts .ensures (o .args .t) (o .args .tracks .now) (o .pre .0 .3) e fr, c .before .lowest-joint2 .ensures (o .pre .0 .3) e g small N j)))
 
 returns-4 : tie.Need-returns-4
 unfolding TwoPin.byKinds Rules.kindOf
-returns-4 c N j =
+returns-4 c e fr g small N j =
     let o = c .before .before .before .before .before .before .before .before in
-    simp (kinds-some (o .args .a) (o .args .b) (o .pre .1 .0 .0) (o .pre .1 .0 .1) (λ z. omega (arith, c .before .match .keys3)))
+    simp (kinds-some (o .args .a) (o .args .b) (o .pre .1 .0) (o .pre .1 .1) (λ z. omega (arith, c .before .match .keys3)))
     (by-number (o .args .a) (o .args .b) _ N _ 3 (c .before .before .before .before .if1 .left) (c .before .match .keys3) (o .pre .0 .0, o .pre .0 .1) (c .bottom-ends .ensures))
 
 returns-5 : tie.Need-returns-5
 unfolding TwoPin.byKinds Rules.kindOf
-returns-5 c N j =
+returns-5 c e fr g small N j =
     let o = c .before .before .before .before .before .before .before .before .before in
-    simp (kinds-some (o .args .a) (o .args .b) (o .pre .1 .0 .0) (o .pre .1 .0 .1) (λ z. omega (arith, c .before .before .match .keys4)))
-    (by-number (o .args .a) (o .args .b) _ N _ 4 (c .before .before .before .before .before .if1 .left) (c .before .before .match .keys4) (o .pre .0 .0, o .pre .0 .1) (cc (c .top-starts .ensures (o .args .t) (o .args .tracks .now) (o .pre .0 .3) (o .pre .0 .4) (o .pre .0 .5), c .before .lowest-joint3 .ensures N j)))
+    simp (kinds-some (o .args .a) (o .args .b) (o .pre .1 .0) (o .pre .1 .1) (λ z. omega (arith, c .before .before .match .keys4)))
+    (by-number (o .args .a) (o .args .b) _ N _ 4 (c .before .before .before .before .before .if1 .left) (c .before .before .match .keys4) (o .pre .0 .0, o .pre .0 .1)
+    (cc (c .top-starts .ensures (o .args .t) (o .args .tracks .now) (o .pre .0 .3) e fr, c .before .lowest-joint3 .ensures (o .pre .0 .3) e g small N j)))
 
 returns-6 : tie.Need-returns-6
 unfolding TwoPin.byKinds Rules.kindOf
-returns-6 c N j =
+returns-6 c e fr g small N j =
     let o = c .before .before .before .before .before .before .before .before .before in
-    simp (kinds-some (o .args .a) (o .args .b) (o .pre .1 .0 .0) (o .pre .1 .0 .1) (λ z. omega (arith, c .before .before .match .keys5)))
-    (by-number (o .args .a) (o .args .b) _ N _ 5 (c .before .before .before .before .before .if1 .left) (c .before .before .match .keys5) (o .pre .0 .0, o .pre .0 .1) (cc (c .both-start .ensures (o .args .t) (o .args .tracks .now) (o .pre .0 .3) (o .pre .0 .4) (o .pre .0 .5), c .before .lowest-joint4 .ensures N j)))
+    simp (kinds-some (o .args .a) (o .args .b) (o .pre .1 .0) (o .pre .1 .1) (λ z. omega (arith, c .before .before .match .keys5)))
+    (by-number (o .args .a) (o .args .b) _ N _ 5 (c .before .before .before .before .before .if1 .left) (c .before .before .match .keys5) (o .pre .0 .0, o .pre .0 .1)
+    (cc (c .both-start .ensures (o .args .t) (o .args .tracks .now) (o .pre .0 .3) e fr, c .before .lowest-joint4 .ensures (o .pre .0 .3) e g small N j)))
 
 returns-7 : tie.Need-returns-7
 unfolding TwoPin.byKinds Rules.kindOf
-returns-7 c N j =
+returns-7 c e fr g small N j =
     let o = c .before .before .before .before .before .before .before .before in
-    simp (kinds-some (o .args .a) (o .args .b) (o .pre .1 .0 .0) (o .pre .1 .0 .1) (λ z. omega (arith, c .before .match .keys6)))
+    simp (kinds-some (o .args .a) (o .args .b) (o .pre .1 .0) (o .pre .1 .1) (λ z. omega (arith, c .before .match .keys6)))
     (by-number (o .args .a) (o .args .b) _ N _ 7 (c .before .before .before .before .if1 .left) (c .before .match .keys6) (o .pre .0 .0, o .pre .0 .1) (c .bottom-ends2 .ensures))
 
 returns-8 : tie.Need-returns-8
 unfolding TwoPin.byKinds Rules.kindOf
-returns-8 c N j =
+returns-8 c e fr g small N j =
     let o = c .before .before .before .before .before .before .before .before in
-    simp (kinds-some (o .args .a) (o .args .b) (o .pre .1 .0 .0) (o .pre .1 .0 .1) (λ z. omega (arith, c .before .match .keys7)))
+    simp (kinds-some (o .args .a) (o .args .b) (o .pre .1 .0) (o .pre .1 .1) (λ z. omega (arith, c .before .match .keys7)))
     (by-number (o .args .a) (o .args .b) _ N _ 12 (c .before .before .before .before .if1 .left) (c .before .match .keys7) (o .pre .0 .0, o .pre .0 .1) (c .top-ends .ensures))
 
 returns-9 : tie.Need-returns-9
 unfolding TwoPin.byKinds Rules.kindOf
-returns-9 c N j =
+returns-9 c e fr g small N j =
     let o = c .before .before .before .before .before .before .before .before in
-    simp (kinds-some (o .args .a) (o .args .b) (o .pre .1 .0 .0) (o .pre .1 .0 .1) (λ z. omega (arith, c .before .match .keys8)))
+    simp (kinds-some (o .args .a) (o .args .b) (o .pre .1 .0) (o .pre .1 .1) (λ z. omega (arith, c .before .match .keys8)))
     (by-number (o .args .a) (o .args .b) _ N _ 13 (c .before .before .before .before .if1 .left) (c .before .match .keys8) (o .pre .0 .0, o .pre .0 .1) (c .top-ends2 .ensures))
 
 returns-10 : tie.Need-returns-10
 unfolding TwoPin.byKinds Rules.kindOf
-returns-10 c N j =
+returns-10 c e fr g small N j =
     let o = c .before .before .before .before .before .before .before .before in
-    simp (kinds-some (o .args .a) (o .args .b) (o .pre .1 .0 .0) (o .pre .1 .0 .1) (λ z. omega (arith, c .before .match .keys9)))
+    simp (kinds-some (o .args .a) (o .args .b) (o .pre .1 .0) (o .pre .1 .1) (λ z. omega (arith, c .before .match .keys9)))
     (by-number (o .args .a) (o .args .b) _ N _ 15 (c .before .before .before .before .if1 .left) (c .before .match .keys9) (o .pre .0 .0, o .pre .0 .1) (c .both-end .ensures))
 
 returns-11 : tie.Need-returns-11
-returns-11 c N j =
+returns-11 c e fr g small N j =
     let o = c .before .before .before .before .before .before .before .before in
     let r = c .before .match .rest in
-    simp (kinds-some (o .args .a) (o .args .b) (o .pre .1 .0 .0) (o .pre .1 .0 .1) (r .0 .0 .0 .0 .0 .0 .0 .0 .1))
+    simp (kinds-some (o .args .a) (o .args .b) (o .pre .1 .0) (o .pre .1 .1) (r .0 .0 .0 .0 .0 .0 .0 .0 .1))
     (by-kinds (o .args .a) (o .args .b) _ N _ (c .before .before .before .before .if1 .left)
     (c .go-straight .ensures ∙ sym (idle (o .args .a) (o .args .b) _ N _ _ (o .pre .0 .0, o .pre .0 .1) (r .0 .0 .0 .0 .0 .0 .0 .0 .1) (r .0 .0 .0 .0 .0 .0 .0 .1) (r .0 .0 .0 .0 .0 .0 .1) (r .0 .0 .0 .0 .0 .1) (r .0 .0 .0 .0 .1) (r .0 .0 .0 .1) (r .0 .0 .1) (r .0 .1) (r .1))))
 

@@ -10,9 +10,7 @@ free-tracks-requires : tie.Need-free-tracks-requires
 free-tracks-requires c κs = search needs
 
 lowest-joint-requires : tie.Need-lowest-joint-requires
-lowest-joint-requires c κs =
-    let o = c .before in
-    ((o .pre .0 .3, o .pre .0 .4, o .pre .0 .2), (o .pre .1 .0, o .pre .1 .1))
+lowest-joint-requires c κs = c .before .pre .2
 
 cast-i : tie.Need-cast-i
 cast-i c = search needs
@@ -57,16 +55,20 @@ choose-three-requires : tie.Need-choose-three-requires
 choose-three-requires c κs = search needs
 
 returns : tie.Need-returns
-returns c =
-    let o = c .before .before .before .before .before .before .before .before .before .before .before .before .before .before .before .before .before .before in
-    let f = c .before .before .before .before .before .before .before .before .before .before .before .before .before .before .before .before .before .free-tracks in
-    let n = c .before .before .before .before .before .before .before .before .before .before .before .before .before .before .before .before .lowest-joint in
-    let q = c .before .before .before .before .before .before .before .before .before .before .before .asks-doubles in
-    let v = c .before .before .before .before .before .before .before .before .before .before .latest-asked in
-    let w = c .before .before .before .before .before .before .before .before .before .other-asked in
-    found-three (o .args .t) (o .args .a) (o .args .b) (o .args .last .now) (o .args .low .now) (o .args .high .now) (o .args .extended .now) (o .args .lone .now)
-    (tracksIn (o .args .t) (o .args .tracks .now)) (o .args .c) _ (f .result) (n .result) (f .ensures (o .args .t) (o .args .tracks .now) (o .pre .0 .3) (o .pre .0 .4) (o .pre .0 .5)) (n .ensures)
-    (q .result) (v .result) (w .result) _ _ (q .ensures) (v .ensures) (w .ensures) (c .before .before .before .before .before .double-at .ensures) (c .before .double-at2 .ensures) (c .choose-three .ensures (o .args .t) refl)
+returns c sized frees lows small =
+    let m = c .before .before .before .before .before .before .before .before .before in
+    let o = m .before .before .before .before .before .before .before .before .before in
+    let f = m .before .before .before .before .before .before .before .before .free-tracks in
+    let n = m .before .before .before .before .before .before .before .lowest-joint in
+    let q = m .before .before .asks-doubles in
+    let v = m .before .latest-asked in
+    let w = m .other-asked in
+    let g = o .args in
+    found-three (g .t) (g .a) (g .b) (g .last .now) (g .low .now) (g .high .now) (g .extended .now) (g .lone .now)
+    (tracksIn (g .t) (g .tracks .now)) (g .c) _ (f .result) (n .result) (f .ensures (g .t) (g .tracks .now) (o .pre .3) sized frees)
+    (n .ensures (o .pre .3) sized lows small)
+    (q .result) (v .result) (w .result) _ _ (q .ensures) (v .ensures) (w .ensures) (c .before .before .before .before .before .double-at .ensures)
+    (c .before .double-at2 .ensures) (c .choose-three .ensures (g .t) refl)
 
 pub three-column-spec : {M : Type 1} → statement M
 three-column-spec =

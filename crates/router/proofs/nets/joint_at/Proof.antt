@@ -9,7 +9,7 @@ use Rattle.router.proofs.nets.joint_at.Tie as tie
 
 returns : tie.Need-returns
 unfolding Working.jointBy
-returns c = simp (eq-eqb _ _ (c .if1 .taken))
+returns c h e g = simp (eq-eqb _ _ (c .if1 .taken))
 
 mul-a : tie.Need-mul-a
 mul-a c = search needs
@@ -34,18 +34,19 @@ add-if2 c = search needs
 
 returns-2 : tie.Need-returns-2
 unfolding Working.jointBy
-returns-2 c = simp (ne-eqb _ _ (c .before .before .before .before .if1 .left), le-ltb _ _ (c .if2 .taken))
+returns-2 c h e g = simp (ne-eqb _ _ (c .before .before .before .before .if1 .left), le-ltb _ _ (c .if2 .taken))
 
 second-of-requires : tie.Need-second-of-requires
-second-of-requires c κs =
-    let o = c .before .before .before .before .before in
-    let some : 0 < o .args .v = omega (arith, c .before .before .before .before .if1 .left) in
-    (o .pre .0 .0, o .pre .0 .1, o .pre .1 .0 .at (o .args .v) some (o .pre .0 .3), o .pre .1 .1 .at (o .args .v) some (o .pre .0 .3))
+second-of-requires c κs = search needs
 
 returns-3 : tie.Need-returns-3
 unfolding Working.jointBy
-returns-3 c =
-    simp (ne-eqb _ _ (c .before .before .before .before .before .if1 .left), lt-ltb _ _ (c .before .if2 .left), c .second-of .ensures)
+returns-3 c h e g =
+    let o = c .before .before .before .before .before .before in
+    let left = c .before .before .before .before .before .if1 .left in
+    let v = o .args .v in
+    let some : 0 < v = omega (arith, left) in
+    simp (ne-eqb _ _ left, lt-ltb _ _ (c .before .if2 .left), c .second-of .ensures h e (g .0 .at v some (o .pre .1)) (g .1 .at v some (o .pre .1)))
 
 pub joint-at-spec : {M : Type 1} → statement M
 joint-at-spec =

@@ -12,26 +12,23 @@ apart-requires : tie.Need-apart-requires
 apart-requires c κs = search needs
 
 mark-net-requires : tie.Need-mark-net-requires
-mark-net-requires c κs =
-    let o = c .before .before .before in
-    (omega (arith, c .before .before .apart .ensures, apart-most (o .args .u) (o .args .v) (o .args .w), o .pre .0), o .pre .3)
+mark-net-requires c κs = search needs
 
 mark-net-requires-2 : tie.Need-mark-net-requires-2
-mark-net-requires-2 c κs =
-    let o = c .before .before .before .before .before .before in
-    (o .pre .1, c .before .before .mark-net .ensures 0 (inr (o .pre .3)))
+mark-net-requires-2 c κs = search needs
 
 mark-net-requires-3 : tie.Need-mark-net-requires-3
-mark-net-requires-3 c κs =
-    let o = c .before .before .before .before .before .before .before .before .before in
-    (o .pre .2, c .before .before .mark-net2 .ensures 0 (inr (c .before .before .before .before .before .mark-net .ensures 0 (inr (o .pre .3)))))
+mark-net-requires-3 c κs = search needs
 
 returns : tie.Need-returns
-returns c =
+returns c bu bv bw z =
     let o = c .before .before .before .before .before .before .before .before .before .before in
+    let a = c .before .before .before .before .before .before .before .before .before .apart in
+    let most = apart-most (o .args .u) (o .args .v) (o .args .w) in
+    let m = c .before .before .before .before .before .before .mark-net .ensures (omega (arith, a .ensures, most)) z in
+    let m2 = c .before .before .before .mark-net2 .ensures bv (m 0 (inr z)) in
     marked-apart (o .args .u) (o .args .v) (o .args .w)
-    (rw (sym (c .before .before .before .before .before .before .before .before .before .apart .ensures))
-    (three-marked _ _ _ (c .before .before .before .before .before .before .mark-net .ensures) (c .before .before .before .mark-net2 .ensures) (c .mark-net3 .ensures)))
+    (rw (sym (a .ensures)) (three-marked _ _ _ m m2 (c .mark-net3 .ensures bw (m2 0 (inr (m 0 (inr z)))))))
 
 pub mark-three-spec : {M : Type 1} → statement M
 mark-three-spec =

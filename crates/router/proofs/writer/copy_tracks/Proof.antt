@@ -9,13 +9,14 @@ use Rattle.router.proofs.writer.copy_tracks.Statement.{statement}
 use Rattle.router.proofs.writer.copy_tracks.Tie as tie
 
 abbrev Inv-loop : tie.InvT-loop
-Inv-loop part₀ tracks t i₀ part i = (i ≤ t) × (part ≡ paste part₀ (t + 1) (drop 1 tracks) i) × (length part ≡ length part₀)
+Inv-loop part₀ tracks t i₀ part i =
+    (i ≤ t) × (length tracks ≡ 512 → part ≡ paste part₀ (t + 1) (drop 1 tracks) i) × (length part ≡ length part₀)
 
 abbrev μ-loop : tie.MeasureT-loop
 μ-loop part₀ tracks t i₀ part i = t - i
 
 loop-holds : tie.Need-loop-holds Inv-loop μ-loop
-loop-holds c = (omega arith, paste-zero (c .args .part .now) ((c .args .t) + 1) (drop 1 (c .args .tracks .now)), refl)
+loop-holds c = (omega arith, λ e. paste-zero (c .args .part .now) ((c .args .t) + 1) (drop 1 (c .args .tracks .now)), refl)
 
 add-part : tie.Need-add-part Inv-loop μ-loop
 add-part c = omega arith
@@ -45,13 +46,21 @@ loop-less : tie.Need-loop-less Inv-loop μ-loop
 loop-less c = omega arith
 
 loop-again : tie.Need-loop-again Inv-loop μ-loop
-loop-again c = (omega arith, copied (c .before .before .before .args .part .now) (c .before .before .before .args .tracks .now) _ (c .before .before .before .args .t) (c .before .before .loop .i) (c .before .before .loop .inv .1) (omega arith) (omega arith), simp length-set (c .before .before .loop .inv .2))
+loop-again c =
+    let o = c .before .before .before .args in
+    let l = c .before .before .loop in (
+      omega arith,
+      λ e. copied (o .part .now) (o .tracks .now) _ (o .t) (l .i) (l .inv .1 e) (omega arith) (omega arith),
+      simp length-set (l .inv .2),
+    )
 
 same-length : tie.Need-same-length Inv-loop μ-loop
 same-length c = c .before .loop .inv .2
 
 returns : tie.Need-returns Inv-loop μ-loop
-returns c = copied-all (c .before .before .args .part .now) (c .before .before .args .tracks .now) _ (c .before .before .args .t) (c .before .loop .i) (c .before .loop .inv .1) (omega arith) (omega arith)
+returns c e =
+    let o = c .before .before .args in
+    copied-all (o .part .now) (o .tracks .now) _ (o .t) (c .before .loop .i) (c .before .loop .inv .1 e) (omega arith) (omega arith)
 
 pub copy-tracks-spec : {M : Type 1} → statement M
 copy-tracks-spec =

@@ -32,9 +32,9 @@ same-length : tie.Need-same-length
 same-length c = search needs
 
 returns : tie.Need-returns
-returns c =
+returns c e =
     let a = c .before .before .before .before .before .args in
-    part-written (a .t) (a .at) (a .x) _ (a .layout .now) _ (c .before .before .write-column .ensures)
+    part-written (a .t) (a .at) (a .x) _ (a .layout .now) _ (c .before .before .write-column .ensures e)
 
 pub write-at-spec : {M : Type 1} → statement M
 write-at-spec =
