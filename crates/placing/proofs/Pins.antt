@@ -1,0 +1,145 @@
+-- One row with the pins of a net at its terminals of that row's side. Assumes nothing.
+use Prim.Native.Nat.{ℕ, zero, suc, _+_, _-_, _≤_, _<_}
+use mathlib.Core.Path.{_≡_, refl, sym, ap, _∙_}
+use mathlib.Core.Logic.{_≢_}
+use mathlib.Core.Bool.{Bool, true, false}
+use mathlib.Core.List.{List, [], _∷_}
+use native.Mathlib.Omega.{arith}
+use lib.Dec.{eqb}
+use lib.ListN.{length, getD, set, take, drop, length-set}
+use lib.Seq.{getD-set-other, take-set-le}
+use Rattle.grid.specs.Channel.{pick, bit, times}
+use Rattle.grid.specs.Refusals.{ifAccepted}
+use Rattle.grid.proofs.Tests.{Same, same, sameBy, eqb-diff}
+use Rattle.placing.specs.Placing.{withPin, withPins}
+use Rattle.placing.proofs.Terminals.{FreeOn, pin-room, Differ}
+
+-- A STORE
+
+-- one entry for another
+times-set : (v : ℕ) (l : List ℕ) (i x : ℕ) → i < length l → times v (set l i x) + bit (eqb (getD l i 0) v) ≡ times v l + bit (eqb x v)
+unfolding times
+times-set v [] i x h = absurd (omega arith)
+times-set v (y ∷ ys) zero x h = omega arith
+times-set v (y ∷ ys) (suc i) x h = omega (arith, times-set v ys i x (omega arith))
+
+-- at an empty place, no net has fewer pins left of a gap
+left-set : (v : ℕ) (l : List ℕ) (i x c : ℕ) → v ≢ 0 → getD l i 0 ≡ 0 → times v (take c l) ≤ times v (take c (set l i x))
+unfolding times
+left-set v [] i x c n e = omega arith
+left-set v (y ∷ ys) i x zero n e = omega arith
+left-set v (y ∷ ys) zero x (suc c) n e = omega (arith, eqb-diff y v (λ z. n (sym z ∙ e)))
+left-set v (y ∷ ys) (suc i) x (suc c) n e = omega (arith, left-set v ys i x c n e)
+
+-- nor right of it
+right-set : (v : ℕ) (l : List ℕ) (i x c : ℕ) → v ≢ 0 → getD l i 0 ≡ 0 → times v (drop c l) ≤ times v (drop c (set l i x))
+unfolding times
+right-set v [] i x c n e = omega arith
+right-set v (y ∷ ys) zero x zero n e = omega (arith, eqb-diff y v (λ z. n (sym z ∙ e)))
+right-set v (y ∷ ys) (suc i) x zero n e = omega (arith, right-set v ys i x 0 n e)
+right-set v (y ∷ ys) zero x (suc c) n e = omega arith
+right-set v (y ∷ ys) (suc i) x (suc c) n e = right-set v ys i x c n e
+
+-- ONE PIN
+
+-- the pins of net v that a pin of `net` at a terminal adds to the row
+abbrev pub newPins : (own net side v : ℕ) → ℕ
+newPins own net side v = pick (eqb side own) (bit (eqb net v)) 0
+
+module _ (own : ℕ) (row : List ℕ) (net column side : ℕ) where
+  -- what holds of the row as it was, and with the pin put
+  pin-by : (P : List ℕ → Type 0) → P row → (side ≡ own → P (set row (column - 1) net)) → P (withPin own row net column side)
+  unfolding withPin
+  pin-by P kept put = go (eqb side own) (sameBy side own)
+    where
+      go : (q : Bool) → Same side own q → P (pick q (set row (column - 1) net) row)
+      go true (same e) = put e
+      go false d = kept
+
+  pin-length : length (withPin own row net column side) ≡ length row
+  pin-length = pin-by (λ l. length l ≡ length row) refl (λ e. length-set row (column - 1) net)
+
+  module _ (drawn : ℕ) (free : FreeOn own row drawn column side) where
+    -- the drawn columns are as before
+    pin-before : take drawn (withPin own row net column side) ≡ take drawn row
+    pin-before = pin-by (λ l. take drawn l ≡ take drawn row) refl (λ e. take-set-le drawn row (column - 1) net (omega (arith, free e .right)))
+
+    module _ (v : ℕ) (n : v ≢ 0) where
+      pin-times : times v (withPin own row net column side) ≡ times v row + newPins own net side v
+      unfolding withPin
+      pin-times = go (eqb side own) (sameBy side own)
+        where
+          go : (q : Bool) → Same side own q → times v (pick q (set row (column - 1) net) row) ≡ times v row + pick q (bit (eqb net v)) 0
+          go true (same e) =
+              let f = free e in
+              let z = eqb-diff (getD row (column - 1) 0) v (λ y. n (sym y ∙ f .empty)) in
+              omega (arith, times-set v row (column - 1) net (omega (arith, f .right, f .within)))
+          go false d = omega arith
+
+      pin-left : (c : ℕ) → times v (take c row) ≤ times v (take c (withPin own row net column side))
+      pin-left c = pin-by (λ l. times v (take c row) ≤ times v (take c l)) (omega arith) (λ e. left-set v row (column - 1) net c n (free e .empty))
+
+      pin-right : (c : ℕ) → times v (drop c row) ≤ times v (drop c (withPin own row net column side))
+      pin-right c = pin-by (λ l. times v (drop c row) ≤ times v (drop c l)) (omega arith) (λ e. right-set v row (column - 1) net c n (free e .empty))
+
+-- BOTH PINS
+
+module _ (own : ℕ) (row : List ℕ) (net column1 side1 column2 side2 : ℕ) where
+  -- with the first pin, and with both
+  abbrev mid : List ℕ
+  mid = withPin own row net column1 side1
+
+  abbrev pub both : List ℕ
+  both = withPins own row net column1 side1 column2 side2
+
+  pub both-length : length both ≡ length row
+  both-length = pin-length own mid net column2 side2 ∙ pin-length own row net column1 side1
+
+  module _ (drawn : ℕ) (one : FreeOn own row drawn column1 side1) (two : FreeOn own row drawn column2 side2) (d : Differ column1 side1 column2 side2) where
+    -- the second terminal is free beside the first pin
+    still-free : FreeOn own mid drawn column2 side2
+    still-free e₂ =
+        let f = two e₂ in
+        record {
+          right = f .right;
+          within = omega (arith, f .within, pin-length own row net column1 side1);
+          empty = pin-by own row net column1 side1 (λ l. getD l (column2 - 1) 0 ≡ 0) (f .empty) (λ e₁.
+              getD-set-other row (column1 - 1) (column2 - 1) net 0 (λ y. d (omega (arith, one e₁ .right, f .right)) (e₁ ∙ sym e₂)) ∙ f .empty);
+        }
+
+    pub both-before : take drawn both ≡ take drawn row
+    both-before = pin-before own mid net column2 side2 drawn still-free ∙ pin-before own row net column1 side1 drawn one
+
+    module _ (v : ℕ) (n : v ≢ 0) where
+      pub both-times : times v both ≡ times v row + newPins own net side1 v + newPins own net side2 v
+      both-times = omega (arith, pin-times own row net column1 side1 drawn one v n, pin-times own mid net column2 side2 drawn still-free v n)
+
+      -- no net has fewer pins left of a gap
+      pub both-left : (c : ℕ) → times v (take c row) ≤ times v (take c both)
+      both-left c = omega (arith, pin-left own row net column1 side1 drawn one v n c, pin-left own mid net column2 side2 drawn still-free v n c)
+
+      -- nor right of it
+      pub both-right : (c : ℕ) → times v (drop c row) ≤ times v (drop c both)
+      both-right c = omega (arith, pin-right own row net column1 side1 drawn one v n c, pin-right own mid net column2 side2 drawn still-free v n c)
+
+-- OVER THE CODE'S VARIABLES
+
+-- a refused net leaves the row as it was
+pub row-kept : (number : ℕ) (row new : List ℕ) → 0 < number → row ≡ ifAccepted number new row
+row-kept zero row new h = absurd (omega arith)
+row-kept (suc k) row new h = refl
+
+-- beside the first pin of a net is room for the second
+pub second-room : {own : ℕ} {row : List ℕ} {drawn column2 side2 : ℕ} → FreeOn own row drawn column2 side2 → (net column1 side1 : ℕ) (mid : List ℕ)
+    → mid ≡ withPin own row net column1 side1 → side2 ≡ own → (1 ≤ column2) × (column2 ≤ length mid)
+second-room {own} {row} free net column1 side1 mid e s =
+    let (a, b) = pin-room free s in
+    let l = ap length e ∙ pin-length own row net column1 side1 in
+    (a, omega arith)
+
+-- and with both the row is as the net places it
+pub row-placed : {number : ℕ} (own : ℕ) (row mid last : List ℕ) (net column1 side1 column2 side2 : ℕ) → number ≡ 0 → mid ≡ withPin own row net column1 side1
+    → last ≡ withPin own mid net column2 side2 → last ≡ ifAccepted number (withPins own row net column1 side1 column2 side2) row
+row-placed own row mid last net column1 side1 column2 side2 z e f =
+    f ∙ ap (λ (l : List ℕ). withPin own l net column2 side2) e
+    ∙ ap (λ (k : ℕ). ifAccepted k (withPins own row net column1 side1 column2 side2) row) (sym z)
