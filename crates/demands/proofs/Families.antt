@@ -20,7 +20,7 @@ use Rattle.demands.proofs.Lines.{either, count-some}
 module _ (top bottom : List ℕ) where
   -- THE TESTS IN WORDS
   -- a net has more than k pins
-  larger-some : (k : ℕ) → pinsWithin top bottom k ≡ false → (v : ℕ) × (v ≢ 0) × (k < pins top bottom v)
+  pub larger-some : (k : ℕ) → pinsWithin top bottom k ≡ false → (v : ℕ) × (v ≢ 0) × (k < pins top bottom v)
   unfolding pinsWithin
   larger-some k e =
       let (v, n, q) = count-some (λ v. ltb k (pins top bottom v)) 256 (eqb-false (count (λ v. ltb k (pins top bottom v)) 256) 0 e) in
@@ -89,7 +89,7 @@ module _ (top bottom : List ℕ) where
 
 module _ (top bottom : List ℕ) (fit : RowsFit top bottom) where
   -- in a channel of two-pin nets, each net has two pins
-  of-two : family top bottom ≡ TwoPin → PairsOnly top bottom
+  pub of-two : family top bottom ≡ TwoPin → PairsOnly top bottom
   of-two e v n = go (ℕ-discrete (pins top bottom v) 0)
     where
       go : Dec (pins top bottom v ≡ 0) → (pins top bottom v ≡ 0) ⊎ (pins top bottom v ≡ 2)

@@ -12,3 +12,4 @@ pub mod Needs
 pub mod Spelling
 pub mod EmptyColumns
 pub mod Beginnings
+pub mod Steps

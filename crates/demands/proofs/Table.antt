@@ -13,6 +13,20 @@ unfolding First
 by-test true n k rest f g h = inl (f refl, refl)
 by-test false n k rest f g h = inr (g refl, h refl)
 
+-- past a line
+pub past-line : (n : ℕ) (A : Type 0) (k : ℕ) (rest rest′ : Table) → (First rest k → First rest′ k) → First (line n A rest) k → First (line n A rest′) k
+unfolding First
+past-line n A k rest rest′ f (inl a) = inl a
+past-line n A k rest rest′ f (inr (a, r)) = inr (a, f r)
+
+-- two lines of one number are one line
+pub one-line : {A B C : Type 0} (n k : ℕ) (rest : Table) → (A → C) → (B → C) → ((A → ⊥) → (B → ⊥) → C → ⊥)
+    → First (line n A (line n B rest)) k → First (line n C rest) k
+unfolding First
+one-line n k rest f g h (inl (a, e)) = inl (f a, e)
+one-line n k rest f g h (inr (a, inl (b, e))) = inl (g b, e)
+one-line n k rest f g h (inr (a, inr (b, r))) = inr (h a b, r)
+
 -- past the last line
 pub at-end : First end 0
 unfolding First

@@ -4,12 +4,13 @@ use mathlib.Core.Path.{_≡_}
 use mathlib.Core.Logic.{_≢_, _⊎_}
 use mathlib.Core.List.{List}
 use lib.ListN.{length, getD}
-use Rattle.grid.specs.Channel.{pins, tracks}
+use Rattle.grid.specs.Channel.{pins, density, tracks}
 use Rattle.router.specs.Answers.{width, formulaLength}
 use Rattle.checker.specs.Faults.{Strange, PinWrong, Unwired, Miswired, Unpinned, FaultAt, LeavesLast, Split, LooseEnd}
 use Rattle.report.specs.declared.Drawing.{Drawing}
 use Rattle.report.specs.declared.Drawing.the-variants.{Absent, Given}
 use Rattle.record.specs.Record.{word}
+use Rattle.placing.specs.Placing.{placedTop, placedBottom}
 
 -- the lines of a table: number, and when it applies
 pub data Table : Type 1 where
@@ -66,6 +67,38 @@ module _ (top bottom : List ℕ) where
   -- OUTPUT SLICE of a record: document 02, Job 6, "18: output slice shorter than 6 + 4n bytes; checked after 9"
   abbrev pub ofOutput : (lent : ℕ) → Table
   ofOutput lent = line 18 (lent < 6 + 4 * length top) end
+
+-- ROWS of a sweep that its caller drives: document 02, Job 10, "In this sweep 7 stands for any net without exactly two pins"
+abbrev pub ofPairRows : (top bottom : List ℕ) → Table → Table
+ofPairRows top bottom rest =
+    line 4 (length top ≢ length bottom)
+    (line 5 (256 < length top)
+    (line 6 (Over top ⊎ Over bottom)
+    (line 7 ((v : ℕ) × (v ≢ 0) × (pins top bottom v ≢ 0) × (pins top bottom v ≢ 2))
+    rest)))
+
+-- LENT SLICE of its steps: "this sweep needs the slice length of document 01's own formula"
+abbrev pub ofStep : (n t lent : ℕ) → Table
+ofStep n t lent = line 8 (lent < formulaLength n t) end
+
+-- a terminal that is "not free or not allowed": not "right of the last drawn column", not "within the channel", on neither side, or with a pin
+abbrev pub Shut : (top bottom : List ℕ) (drawn column side : ℕ) → Type 0
+Shut top bottom drawn column side =
+    (column ≤ drawn)
+    ⊎ ((length top < column)
+    ⊎ ((1 < side)
+    ⊎ (((side ≡ 0) × (getD top (column - 1) 0 ≢ 0)) ⊎ ((side ≡ 1) × (getD bottom (column - 1) 0 ≢ 0)))))
+
+-- LATE NET: "(21: number in use; 22: a terminal not free or not allowed; 23: density over the tracks; checked in that order after 6.)" The terminals "are
+-- distinct"
+abbrev pub ofLateNet : (top bottom : List ℕ) (t drawn net column1 side1 column2 side2 : ℕ) → Table
+ofLateNet top bottom t drawn net column1 side1 column2 side2 =
+    -- "A net number of 0 or over 256 is a 6"
+    line 6 ((net ≡ 0) ⊎ (256 < net))
+    (line 21 (pins top bottom net ≢ 0)
+    (line 22 (Shut top bottom drawn column1 side1 ⊎ (Shut top bottom drawn column2 side2 ⊎ ((column1 ≡ column2) × (side1 ≡ side2))))
+    (line 23 (t < density (placedTop top net column1 side1 column2 side2) (placedBottom bottom net column1 side1 column2 side2))
+    end)))
 
 -- NET TABLE: "net table under 256 records"
 abbrev pub ofNetTable : (lent : ℕ) → Table → Table
