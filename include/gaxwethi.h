@@ -19,8 +19,9 @@
  * Numbers. Each call but gaxwethi_column answers with a number: 0 for
  * acceptance, else why it is refused. Refusals are checked from the top of this
  * table down; a call skips those of the places that it lacks. A refused call
- * writes nothing: all that it is lent keeps its contents. Its other figures are
- * 0, but for the checker's place, column and row.
+ * writes nothing: all that it is lent keeps its contents, but that a refused
+ * start leaves a sweep of the channel without columns. Its other figures are 0,
+ * but for the checker's place, column and row.
  *
  *    Record    1  under 4 or over 1,030 bytes, or a wrong length field
  *              2  kind not 1
@@ -28,8 +29,10 @@
  *    Rows      4  lengths differ
  *              5  over 256 columns; for a listing over 64
  *              6  a number over 256
- *              7  a net with one pin
- *    Slice     8  layout shorter than gaxwethi_need says
+ *              7  a net with one pin; for a driven sweep, any without exactly
+ *                 two
+ *    Slice     8  layout shorter than gaxwethi_need says; in a step of a driven
+ *                 sweep, than (n + t/2 rounded down) * (2t + 1)
  *              9  net table under 256 records
  *             18  output slice shorter than 6 + 4n bytes
  *    Drawing  10  w under n or over 511
@@ -43,20 +46,26 @@
  *             15  horizontal edge in the last column
  *             16  a net in more than one piece
  *             17  a loose end
+ *    Late net  6  number 0 or over 256
+ *             21  number in use
+ *             22  a terminal not free or not allowed
+ *             23  density over the tracks
  *
  * Slices. A slice is lent as a pointer and a length in elements. The pointer
  * is not null, also where the length is 0, is aligned, and is good for that
  * many elements. The text of gaxwethi_list is lent as a pointer alone and is
- * good for GAXWETHI_TEXT bytes. What is written overlaps no other argument.
- * These are the only conditions: all contents and all numbers are taken.
+ * good for GAXWETHI_TEXT bytes; the members of a gaxwethi_sweep are lent so too,
+ * each good for its size. What is written overlaps no other argument. These are
+ * the only conditions: all contents and all numbers are taken.
  *
- * No call keeps state, and every call ends; calls from several threads are
- * independent.
+ * No call keeps state, as the caller holds that of a driven sweep, and every
+ * call ends; calls from several threads are independent.
  */
 
 #ifndef GAXWETHI_H
 #define GAXWETHI_H
 
+#include <stdbool.h>
 #include <stddef.h>
 #include <stdint.h>
 
@@ -235,6 +244,134 @@ typedef struct {
 gaxwethi_canonical_result gaxwethi_canonical(const uint16_t *top, size_t n,
                                              const uint16_t *bottom, size_t m,
                                              uint8_t *bytes, size_t len);
+
+/*
+ * A driven sweep, for channels of two-pin nets: columns are drawn some at a
+ * time, and nets may still be placed right of them. This is its state, which the
+ * caller holds. gaxwethi_start makes it, whatever stood there before.
+ *
+ * To be read are the channel's columns n, the tracks t, the columns drawn so far,
+ * and the rows with the late nets so far, the first n numbers of top and bottom.
+ * What is said of the calls below holds for a state, and at each step a layout
+ * slice, as the call before left it. With any other state a call still ends.
+ */
+typedef struct {
+    size_t columns;
+    size_t tracks;
+    size_t drawn;
+    uint16_t top[256];
+    uint16_t bottom[256];
+    uint16_t first[257];
+    uint16_t last[257];
+    uint16_t strands[512];
+    uint64_t free[8];
+    uint16_t low[257];
+    uint16_t high[257];
+    uint16_t many[257];
+    uint64_t extended[8];
+} gaxwethi_sweep;
+
+typedef struct {
+    uint16_t number;
+    size_t tracks;
+    size_t length;
+} gaxwethi_start_result;
+
+typedef struct {
+    uint16_t number;
+    size_t drawn;
+    bool finished;
+} gaxwethi_step_result;
+
+/*
+ * The library's own calls for a driven sweep. They take the state member by
+ * member, rows as upper and lower; the functions after them pass these.
+ */
+gaxwethi_start_result gaxwethi_sweep_start(const uint16_t *top, size_t n,
+                                           const uint16_t *bottom, size_t m,
+                                           size_t *columns, size_t *tracks,
+                                           size_t *drawn,
+                                           uint16_t *upper, uint16_t *lower,
+                                           uint16_t *first, uint16_t *last,
+                                           uint16_t *strands, uint64_t *free,
+                                           uint16_t *low, uint16_t *high,
+                                           uint16_t *many, uint64_t *extended);
+
+gaxwethi_step_result gaxwethi_sweep_step(size_t columns, size_t tracks,
+                                         size_t *drawn,
+                                         const uint16_t *upper,
+                                         const uint16_t *lower,
+                                         const uint16_t *first,
+                                         const uint16_t *last,
+                                         uint16_t *strands, uint64_t *free,
+                                         uint16_t *low, uint16_t *high,
+                                         uint16_t *many, uint64_t *extended,
+                                         uint16_t *layout, size_t len,
+                                         size_t k);
+
+uint16_t gaxwethi_sweep_place(size_t columns, size_t tracks, size_t drawn,
+                              uint16_t *upper, uint16_t *lower,
+                              uint16_t *first, uint16_t *last,
+                              uint16_t net,
+                              size_t column1, uint16_t side1,
+                              size_t column2, uint16_t side2);
+
+/*
+ * Begins a driven sweep of a channel, on d tracks. Refuses with 4 to 7, where 7
+ * is any net without exactly two pins; the sweep is then that of the channel
+ * without columns.
+ *
+ * The length, (n + t/2 rounded down) * (2t + 1), is that of the layout slice
+ * which every step needs: late nets can change the width.
+ */
+static inline gaxwethi_start_result
+gaxwethi_start(gaxwethi_sweep *sweep, const uint16_t *top, size_t n,
+               const uint16_t *bottom, size_t m)
+{
+    return gaxwethi_sweep_start(top, n, bottom, m, &sweep->columns,
+                                &sweep->tracks, &sweep->drawn, sweep->top,
+                                sweep->bottom, sweep->first, sweep->last,
+                                sweep->strands, sweep->free, sweep->low,
+                                sweep->high, sweep->many, sweep->extended);
+}
+
+/*
+ * Draws the next k columns, or those that are left, into their places: the
+ * channel's, then the added ones. Refuses with 8 if len is under the length that
+ * gaxwethi_start answered, also where nothing is left to draw.
+ *
+ * Answers the columns drawn so far, and whether these are all. The other columns
+ * of the slice keep their contents. However the steps are grouped, the finished
+ * drawing is the one that gaxwethi_route draws of the channel with all late nets.
+ */
+static inline gaxwethi_step_result
+gaxwethi_step(gaxwethi_sweep *sweep, uint16_t *layout, size_t len, size_t k)
+{
+    return gaxwethi_sweep_step(sweep->columns, sweep->tracks, &sweep->drawn,
+                               sweep->top, sweep->bottom, sweep->first,
+                               sweep->last, sweep->strands, sweep->free,
+                               sweep->low, sweep->high, sweep->many,
+                               sweep->extended, layout, len, k);
+}
+
+/*
+ * Places a late net at two terminals, each a column, counted from 1, and a side,
+ * 0 for top and 1 for bottom. Refuses with 6, 21, 22 and 23.
+ *
+ * 22 is a terminal that has a pin, is not right of the last drawn column, lies
+ * outside the channel or has another side, and one terminal given twice; 23 is a
+ * net with which the density would be over the tracks, which stay those of the
+ * start.
+ */
+static inline uint16_t
+gaxwethi_place(gaxwethi_sweep *sweep, uint16_t net, size_t column1,
+               uint16_t side1, size_t column2, uint16_t side2)
+{
+    return gaxwethi_sweep_place(sweep->columns, sweep->tracks, sweep->drawn,
+                                sweep->top, sweep->bottom, sweep->first,
+                                sweep->last, net, column1, side1, column2,
+                                side2);
+}
 
 #ifdef __cplusplus
 }

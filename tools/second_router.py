@@ -1,20 +1,22 @@
 #!/usr/bin/env python3
-"""A second router, checker, net report and canonical record for knock-knee channels.
+"""A second router, checker, net report, canonical record and column-by-column sweep for knock-knee channels.
 
 Written from documents 01 and 02 alone, the third sweep with the choices of docs/THREE-PIN.md, so that its answers can be laid beside those of the proved one.
 It keeps the tracks of each net as a set, draws wires row by row, and finds pieces by a search over grid points.
 
     second_router.py list  < record      the listing of one record
     second_router.py compare FILE ...    compare with files of worked cases, whose names end in routes.txt, needs.txt, listings.txt, checks.txt,
-                                         reports.txt, long.txt, records.txt or pairs.txt
+                                         reports.txt, long.txt, records.txt, pairs.txt, steps.txt or short.txt; cases of games are skipped
 """
 
+import copy
 import sys
 
 from second_channel import LARGEST, TWO_PIN, family, refusal
 from second_checker import check
 from second_record import canonical, read_record
 from second_report import NO_RECORD, report
+from second_steps import Sweep
 from second_sweep import need, route, route_number
 
 LISTED = 64  # columns of a channel that is listed
@@ -148,6 +150,67 @@ def same_pair(part):
     return [pins[:k] for pins in one] == [pins[:k] for pins in other] and drawn == first_columns(*other, k) and weighed(drawn[1]) == total
 
 
+def same_step(sweep, layout, line, width):
+    """Whether a step is answered as in a worked case, finished at the width and not before, and changes just the columns that it draws."""
+    (k, worked), first, kept = figures(line), sweep.drawn, list(layout)
+    if sweep.step(layout, k) != (0, worked, worked == width):
+        return False
+    entries = 2 * sweep.tracks + 1
+    left, right = first * entries, worked * entries
+    return len(layout) == len(kept) and layout[:left] == kept[:left] and layout[right:] == kept[right:]
+
+
+def same_short_step(sweep, layout, line):
+    """Whether a step with a slice one entry too short is refused as in a worked case, and changes neither sweep nor slice."""
+    (k, worked), before, lent = figures(line), copy.deepcopy(sweep), layout[:-1]
+    return sweep.step(lent, k) == (worked, 0, False) and lent == layout[:-1] and vars(sweep) == vars(before)
+
+
+def same_place(sweep, line):
+    """Whether a late net is answered as in a worked case; a refused one changes nothing."""
+    words, before = line.split(" "), copy.deepcopy(sweep)
+    net, column, side, other_column, other_side, worked = map(int, words[1:6] + words[7:])
+    number = sweep.place(net, (column, side), (other_column, other_side))
+    return number == worked and (number == 0 or vars(sweep) == vars(before))
+
+
+def same_call(sweep, layout, line, width):
+    """Whether one call of a worked case is answered as there."""
+    if line.startswith("place "):
+        return same_place(sweep, line)
+    if line.startswith("short "):
+        return same_short_step(sweep, layout, line.removeprefix("short "))
+    return same_step(sweep, layout, line, width)
+
+
+def same_steps(part, sweep_of=Sweep):
+    """Whether a sweep driven as in a worked case gives its answers, and at the end its channel with all late nets and its drawing, the one-call router's."""
+    sweep = sweep_of()
+    sweep.start([1, 2], [2, 1])  # another channel before, of which nothing must stay
+    sweep.step([0] * 15, 1)
+    number, t, length = sweep.start(row(part[0]), row(part[1]))
+    if part[2] != "start %d tracks %d slice %d" % (number, t, length):
+        return False
+    if number:
+        return len(part) == 3 and vars(sweep) == vars(sweep_of())
+    calls = [line for line in part[3:] if line.split(" ")[0] in ("place", "short", "step")]
+    end = part[3 + len(calls) :]
+    if len(end) < 4 or not end[0].startswith("finished width "):
+        return False
+    layout, width = [-1] * length, int(end[0].split(" ")[2])
+    if not all(same_call(sweep, layout, line, width) for line in calls):
+        return False
+    drawn = layout[: width * (2 * t + 1)]
+    same = [sweep.finished(), sweep.drawn == width, sweep.rows == (row(end[1]), row(end[2])), end[3] == "sum %d" % weighed(drawn)]
+    same += [row(line) == drawn for line in end[4:]]
+    return all(same) and route(*sweep.rows)[1:] == (t, width, drawn) and layout[len(drawn) :] == [-1] * (length - len(drawn))
+
+
+def is_game(part):
+    """Whether a case is of Job 13, which is skipped."""
+    return part[0].startswith("game ")
+
+
 KINDS = {
     "routes.txt": same_route,
     "needs.txt": same_need,
@@ -157,6 +220,8 @@ KINDS = {
     "long.txt": same_report,
     "records.txt": same_record,
     "pairs.txt": same_pair,
+    "steps.txt": same_steps,
+    "short.txt": same_steps,
 }
 
 
@@ -165,8 +230,10 @@ def compare(paths):
     whole = True
     for path in paths:
         same = next(same for name, same in KINDS.items() if path.endswith(name))
-        answers = [same(part) for part in blocks(path)]
-        print(path, sum(answers), "of", len(answers), "agree")
+        parts = blocks(path)
+        answers = [same(part) for part in parts if not is_game(part)]
+        games = len(parts) - len(answers)
+        print(path, sum(answers), "of", len(answers), "agree" + (", %d games skipped" % games if games else ""))
         whole = whole and all(answers)
     return whole
 

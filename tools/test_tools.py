@@ -18,9 +18,10 @@ import reports
 import second_report
 import second_router
 import three_pin_channels
-from second_channel import MANY_PIN, THREE_PIN, TWO_PIN, family, refusal
+from second_channel import MANY_PIN, THREE_PIN, TWO_PIN, density, family, refusal, span
 from second_checker import check
 from second_record import canonical, read_record, renumbered
+from second_steps import Sweep
 from second_sweep import need, route, route_number
 
 HERE = pathlib.Path(__file__).resolve().parent
@@ -29,6 +30,14 @@ DOCS = HERE.parent / "docs"
 
 CASE_D = bytes.fromhex("0C 00 01 00 02 00 01 00 02 00 02 00 01 00")
 LISTING_D = "density 2 tracks 2 width 3\n1: 2 0 1 | 2 1\n2: 1 2 2 | 1 1\n3: 0 1 0 | 0 0\n"
+
+
+def small_channels(n, pins):
+    """The channels of n columns with nets numbered in the order of their first pin, of at most as many pins each."""
+    for terminals in itertools.product(range(n + 1), repeat=2 * n):
+        top, bottom = list(terminals[::2]), list(terminals[1::2])
+        if not refusal(top, bottom) and renumbered(top, bottom) == (top, bottom) and all(terminals.count(net) <= pins for net in range(1, n + 1)):
+            yield top, bottom
 
 
 class Channel(unittest.TestCase):
@@ -228,18 +237,11 @@ class Beginnings(unittest.TestCase):
         one, other = ([1, 1], [0, 0]), ([1, 2, 1], [0, 0, 2])  # the first column agrees
         self.assertEqual((second_router.first_columns(*one, 1), second_router.first_columns(*other, 1)), ((1, [0, 1, 1]), (2, [0, 1, 1, 1, 0])))
 
-    def small_channels(self, n, pins):
-        """The channels of n columns with nets numbered in the order of their first pin, of at most as many pins each."""
-        for terminals in itertools.product(range(n + 1), repeat=2 * n):
-            top, bottom = list(terminals[::2]), list(terminals[1::2])
-            if not refusal(top, bottom) and renumbered(top, bottom) == (top, bottom) and all(terminals.count(net) <= pins for net in range(1, n + 1)):
-                yield top, bottom
-
     def beginnings(self, pins):
         """For each density and first columns of the small channels, how many different first columns their drawings have."""
         drawn = {}
         for n in range(5):
-            for top, bottom in self.small_channels(n, pins):
+            for top, bottom in small_channels(n, pins):
                 for k in range(n + 1):
                     d, first = second_router.first_columns(top, bottom, k)
                     drawn.setdefault((d, tuple(top[:k]), tuple(bottom[:k])), set()).add(tuple(first))
@@ -248,6 +250,184 @@ class Beginnings(unittest.TestCase):
     def test_all_small_channels(self):
         self.assertEqual(self.beginnings(2), [1] * 1233)
         self.assertGreater(max(self.beginnings(3)), 1)
+
+
+class Driven:
+    """A sweep of a channel that is accepted, with a slice of just the length that it needs."""
+
+    def __init__(self, top, bottom):
+        self.sweep = Sweep()
+        _, _, length = self.sweep.start(top, bottom)
+        self.layout = [-1] * length
+
+    def step(self, k):
+        """What a step with the slice answers."""
+        return self.sweep.step(self.layout, k)
+
+    def drawing(self):
+        """Tracks, width and entries of the drawing."""
+        return self.sweep.tracks, self.sweep.drawn, self.layout[: self.sweep.drawn * (2 * self.sweep.tracks + 1)]
+
+
+# Faults of the sweep, which the worked cases find: what its text has, and what it has instead.
+FAULTS = [
+    ("count != 2", "count < 2"),  # nets of three pins
+    ("            self.begin([], [])\n", ""),  # a refused start leaves what was
+    ("t // 2", "(t + 1) // 2"),
+    ("t // 2", "0"),
+    ("if len(layout)", "if k and len(layout)"),
+    ("if len(layout)", "if not self.finished() and len(layout)"),
+    ("< self.length()", "< self.length() - 1"),
+    ("return 8, 0, False", "return 8, self.drawn, self.finished()"),
+    (" and not any(self.strands.values())", ""),  # no added columns
+    ("layout[self.drawn * len(entries) : (self.drawn + 1) * len(entries)] = entries", "layout[: len(entries)] = entries"),
+    ("k -= 1", "k -= 2"),
+    ("two_pin_column if pins.here() else empty_column", "two_pin_column if pins.here() else lambda *_: None"),
+    ("if number == 0", "if number in (0, 23)"),  # a refused net stays
+    ("1 <= net", "0 <= net"),
+    ("<= LARGEST", "<= LARGEST + 1"),
+    ("self.rows[0] + self.rows[1]", "self.rows[0]"),
+    ("self.rows[0] + self.rows[1]", "self.rows[0][self.drawn :] + self.rows[1][self.drawn :]"),  # the number of a net that is drawn
+    ("one == other or ", ""),
+    (" or not self.allowed(other)", ""),
+    ("self.drawn < column", "self.drawn <= column"),
+    (" and self.rows[side][column - 1] == 0", ""),
+    ("> self.tracks", "> self.tracks + 1"),
+    ("> self.tracks", ">= self.tracks"),
+    ("return 23", "return 0"),
+]
+
+
+def planted(there, instead):
+    """The sweep with a fault."""
+    text, names = (HERE / "second_steps.py").read_text(), {}
+    if text.count(there) != 1:
+        raise AssertionError("not once in the sweep's text: " + there)
+    exec(text.replace(there, instead), names)
+    return names["Sweep"]
+
+
+class Steps(unittest.TestCase):
+    """The sweep column by column, with late nets, on the worked cases of job10-steps.txt and job10-13-short.txt and on other channels."""
+
+    steps = second_router.blocks(HERE / "cases" / "job10-steps.txt")
+    short = second_router.blocks(HERE / "cases" / "job10-13-short.txt")
+
+    def numbers(self, parts, word):
+        """The numbers that the calls of a word answer: the one after the word `start`, else the last one."""
+        lines = [line.split(" ") for part in parts for line in part if line.startswith(word)]
+        return [int(line[1 if word == "start " else -1]) for line in lines]
+
+    def test_worked_steps(self):
+        self.assertEqual([part for part in self.steps if not second_router.same_steps(part)], [])
+        starts, places = self.numbers(self.steps, "start "), self.numbers(self.steps, "place ")
+        self.assertEqual(([starts.count(number) for number in (0, 4, 5, 6, 7)], len(starts)), ([605, 8, 1, 7, 20], 641))
+        self.assertEqual(([places.count(number) for number in (0, 6, 21, 22, 23)], len(places)), ([412, 346, 37, 1056, 65], 1916))
+        self.assertEqual(len(self.numbers(self.steps, "step ")), 2787)
+
+    def test_worked_short_slices(self):
+        parts = [part for part in self.short if not second_router.is_game(part)]
+        self.assertEqual([part for part in parts if not second_router.same_steps(part)], [])
+        self.assertEqual((len(parts), len(self.short) - len(parts)), (83, 100))
+        self.assertEqual((len(self.numbers(parts, "step ")), self.numbers(parts, "short step ")), (457, [8] * 195))
+
+    def test_late_nets_change_the_width(self):
+        accepted = [part for part in self.steps if part[2].startswith("start 0 ")]
+        widths = [(route(second_router.row(part[0]), second_router.row(part[1]))[2], self.numbers([part], "finished ")[0]) for part in accepted]
+        self.assertEqual(sum(first != last for first, last in widths), 22)
+
+    def test_faults_are_found(self):
+        parts = [part for part in self.steps + self.short if not second_router.is_game(part)]
+        for there, instead in FAULTS:
+            with self.subTest(there=there, instead=instead):
+                faulty = planted(there, instead)
+                self.assertFalse(all(second_router.same_steps(part, faulty) for part in parts))
+
+    def test_another_case_differs(self):
+        # Nets 1 and 2 of case D, then a late net 3.
+        case = ["top 1 2 0 0", "bottom 2 1 0 0", "start 0 tracks 2 slice 25", "step 0 drawn 0", "short step 1 number 8", "place 2 3 0 4 0 number 21"]
+        case += ["step 2 drawn 2", "place 3 3 1 4 0 number 0", "place 3 3 0 4 1 number 21", "place 4 2 0 4 1 number 22", "step 9 drawn 4"]
+        case += ["finished width 4", "top 1 2 0 3", "bottom 2 1 3 0", "sum 265", "layout 2 0 1 2 1 1 2 2 1 1 3 1 0 3 0 0 3 3 0 0"]
+        refused = ["top 1 1 1", "bottom 0 0 0", "start 7 tracks 0 slice 0"]
+        self.assertTrue(second_router.same_steps(case) and second_router.same_steps(case[:-1]) and second_router.same_steps(refused))
+        others = [(2, "start 7 tracks 0 slice 0"), (2, "start 0 tracks 3 slice 25"), (2, "start 0 tracks 2 slice 20"), (3, "step 1 drawn 0"), (3, "step 0 drawn 1")]
+        others += [(4, "step 1 drawn 0"), (4, "short step 1 number 0"), (5, "place 2 3 0 4 0 number 22"), (6, "step 2 drawn 3"), (6, "step 3 drawn 3")]
+        others += [(7, "place 3 3 1 4 1 number 0"), (7, "place 3 3 1 4 0 number 23"), (9, "place 4 3 0 4 1 number 22"), (10, "step 1 drawn 3")]
+        others += [(11, "finished width 3"), (11, "finished width 5"), (12, "top 1 2 0 0"), (13, "bottom 2 1 0 0"), (14, "sum 266")]
+        others += [(15, case[15][:-1] + "1"), (15, case[15] + " 0")]
+        for place, line in others:
+            with self.subTest(line):
+                self.assertFalse(second_router.same_steps(case[:place] + [line] + case[place + 1 :]))
+        for other in (case[:11], case[:10] + case[11:], case[:14], refused[:2] + ["start 6 tracks 0 slice 0"], refused + case[3:], refused[:2] + case[2:]):
+            self.assertFalse(second_router.same_steps(other))
+
+    def test_refused_start(self):
+        wide = [0] * 257
+        for top, bottom, number in [([1], [1, 1], 4), (wide, wide, 5), ([257, 257], [0, 0], 6), ([1], [0], 7), ([1, 1, 1], [0, 0, 0], 7)]:
+            driven = Driven([1, 2], [2, 1])
+            sweep = driven.sweep
+            self.assertEqual((driven.step(1), sweep.start(top, bottom)), ((0, 1, False), (number, 0, 0)))
+            self.assertEqual((sweep.finished(), sweep.step([], 3)), (True, (0, 0, True)))
+            self.assertEqual((sweep.place(0, (1, 0), (1, 1)), sweep.place(1, (1, 0), (1, 1))), (6, 22))
+
+    def test_short_slice(self):
+        driven = Driven([1, 2], [2, 1])
+        for drawn in range(5):
+            lent = driven.layout[:-1]
+            answers = [driven.sweep.step(lent, k) for k in (0, 1, 9)]
+            self.assertEqual((answers, lent), ([(8, 0, False)] * 3, driven.layout[:-1]))
+            self.assertEqual((driven.step(0), driven.step(1)), ((0, min(drawn, 3), drawn > 2), (0, min(drawn + 1, 3), drawn > 1)))
+
+    def test_longer_slice(self):
+        layout = [-1] * 17
+        self.assertEqual((Driven([1, 2], [2, 1]).sweep.step(layout, 9), layout[15:]), ((0, 3, True), [-1, -1]))
+
+    def test_order_of_refusals(self):
+        driven = Driven([1, 0, 1, 0], [0, 0, 0, 0])
+        place = driven.sweep.place
+        driven.step(1)
+        self.assertEqual([place(net, (0, 7), (0, 7)) for net in (0, 257, 65535, 1, 2)], [6, 6, 6, 21, 22])
+        for terminal in [(0, 0), (1, 1), (3, 0), (5, 0), (65536, 1), (2, 2), (2, 65536)]:  # outside, drawn, not free, or on no side
+            self.assertEqual((place(2, terminal, (4, 0)), place(256, (4, 0), terminal)), (22, 22))
+        self.assertEqual((place(2, (4, 0), (4, 0)), place(2, (2, 0), (4, 0)), driven.sweep.rows), (22, 23, ([1, 0, 1, 0], [0, 0, 0, 0])))
+        self.assertEqual((place(256, (4, 1), (3, 1)), place(2, (2, 1), (2, 0)), driven.sweep.rows), (0, 0, ([1, 2, 1, 0], [0, 2, 256, 256])))
+        self.assertEqual((driven.step(3), place(1, (4, 0), (4, 0)), place(5, (4, 0), (4, 0))), ((0, 4, True), 21, 22))
+        self.assertEqual(driven.drawing(), route(*driven.sweep.rows)[1:])
+
+    def test_all_small_channels(self):
+        channels = [rows for n in range(5) for rows in small_channels(n, 2)]
+        for top, bottom in channels:
+            for group in [(1, 1, 1, 1, 1, 1), (0, 2, 1, 0, 3), (3, 3), (9,)]:
+                driven = Driven(top, bottom)
+                answers = [driven.step(k) for k in group]
+                self.assertEqual(driven.drawing(), route(top, bottom)[1:])
+                self.assertEqual(answers, [(0, drawn, drawn == driven.sweep.drawn) for _, drawn, _ in answers])
+        self.assertEqual(len(channels), 853)
+
+    def late(self, top, bottom, nets, latest):
+        """The sweep of a channel, some nets of which are late, all placed before the first column or each just before that of its first pin; the last number."""
+        driven, ends = Driven(*([0 if net in nets else net for net in pins] for pins in (top, bottom))), span(top, bottom)
+        for net in sorted(nets, key=ends.get):
+            driven.step(ends[net][0] - 1 - driven.sweep.drawn if latest else 0)
+            one, other = ((column, side) for side, pins in enumerate((top, bottom)) for column, number in enumerate(pins, 1) if number == net)
+            number = driven.sweep.place(net, one, other)
+            if number:
+                return driven, number
+        driven.step(9)
+        return driven, 0
+
+    def test_all_small_late_nets(self):
+        numbers = []
+        for top, bottom in (rows for n in range(5) for rows in small_channels(n, 2)):
+            used = span(top, bottom)
+            for nets in (nets for count in range(1, len(used) + 1) for nets in itertools.combinations(used, count)):
+                for latest in (False, True):
+                    driven, number = self.late(top, bottom, nets, latest)
+                    self.assertEqual(number == 0, driven.sweep.tracks == density(top, bottom))
+                    if number == 0:
+                        self.assertEqual((driven.sweep.rows, driven.sweep.finished(), driven.drawing()), ((top, bottom), True, route(top, bottom)[1:]))
+                    numbers.append(number)
+        self.assertEqual(([numbers.count(number) for number in (0, 23)], len(numbers)), ([2800, 8088], 10888))
 
 
 class Records(unittest.TestCase):

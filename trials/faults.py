@@ -17,7 +17,7 @@ WORK = HERE / "target" / "faults"
 CHANNELS = "20000"
 
 ROWS, CHECK, REPORT, LIST, ROUTE, RECORD = (f"baseline/src/{x}.rs" for x in ("rows", "check", "report", "list", "route", "record"))
-TWO, MANY, THREE = (f"baseline/src/route/{x}.rs" for x in ("two_pin", "many_pin", "three_pin"))
+TWO, MANY, THREE, STEPS = (f"baseline/src/route/{x}.rs" for x in ("two_pin", "many_pin", "three_pin", "steps"))
 CALLS = "standin/src/lib.rs"
 
 
@@ -308,6 +308,67 @@ FAULTS = [
     ("length of the slice for that of the record", RECORD, "Ok(record.len())", "Ok(bytes.len())"),
     ("length of a refused record", CALLS, "    figure(|| baseline::canonical(top, bottom, bytes))",
      "    let answer = figure(|| baseline::canonical(top, bottom, bytes));\n    Figure { value: 6 + 4 * n, ..answer }"),
+    ("driven sweep of a net of three pins", STEPS, "net.pins > 2", "net.pins > 3"),
+    ("driven sweep with a track more", STEPS, "state.tracks = densest(top.len(), &nets);", "state.tracks = densest(top.len(), &nets) + 1;"),
+    ("refused start leaves the state", CALLS, "Err(number) => (number, State::default()),",
+     "Err(number) => return Started { number, tracks: 0, length: 0 },"),
+    ("refused start keeps the columns", CALLS, "Err(number) => (number, State::default()),",
+     "Err(number) => (number, State { columns: n.min(256), ..State::default() }),"),
+    ("tracks of a refused start", CALLS, "Started { number, tracks: state.tracks,", "Started { number, tracks: state.tracks.max(number.into()),"),
+    ("start leaves the strands", CALLS, "(*strands, *free) = (state.strands, state.free);", "*free = state.free;"),
+    ("start leaves the free tracks", CALLS, "(*strands, *free) = (state.strands, state.free);", "*strands = state.strands;"),
+    ("start leaves the stretched nets", CALLS, "    *extended = state.extended;\n    Started", "    Started"),
+    ("step length a column short", STEPS, "self.tracks / 2)", "(self.tracks / 2).saturating_sub(1))"),
+    ("step length without the added columns after column n", STEPS, "layout.len() < self.length()",
+     "layout.len() < self.length() && (self.drawn < self.columns || layout.len() < self.columns * (2 * self.tracks + 1))"),
+    ("short step taken", STEPS, "layout.len() < self.length()", "layout.len() + 1 < self.length()"),
+    ("short step of no columns taken", STEPS, "layout.len() < self.length()", "k > 0 && layout.len() < self.length()"),
+    ("short step after the last column taken", STEPS, "layout.len() < self.length()",
+     "layout.len() < self.length() && !(self.drawn >= self.columns && self.extended == [0; 8])"),
+    ("slice of just the length refused", STEPS, "layout.len() < self.length()", "layout.len() <= self.length()"),
+    ("short step written", STEPS, "return Err(8);", "layout.iter_mut().take(1).for_each(|entry| *entry = 0);\n            return Err(8);"),
+    ("short step counted", STEPS, "return Err(8);", "self.drawn += 1;\n            return Err(8);"),
+    ("columns of a refused step", CALLS, "Stepped { number, drawn: 0, finished", "Stepped { number, drawn: *drawn, finished"),
+    ("finished by a refused step", CALLS, "drawn: 0, finished: false }", "drawn: 0, finished: number == 8 }"),
+    ("a column more than asked for", STEPS, ".take(k)", ".take(k.saturating_add(1))"),
+    ("no columns taken for one", STEPS, ".take(k)", ".take(k.max(1))"),
+    ("a step ends at column n", STEPS, ".take(k)", ".take(k.min(self.columns.saturating_sub(self.drawn).max(1)))"),
+    ("number of columns of 16 bits", STEPS, ".take(k)", ".take(k as u16 as usize)"),
+    ("a step draws from column 1", STEPS, ".skip(self.drawn)", ".skip(0)"),
+    ("added columns of a driven sweep not drawn", STEPS, "self.drawn >= self.columns && sweep.stretched.len() == 0", "self.drawn >= self.columns"),
+    ("finished at column n", STEPS, "let finished = self.finished(&sweep);", "let finished = self.drawn >= self.columns;"),
+    ("finished a column late", STEPS, "let finished = self.finished(&sweep);", "let finished = self.finished(&sweep) && k != 1;"),
+    ("a column after the last", STEPS, "if self.finished(&sweep) {", "if self.finished(&sweep) && self.drawn > self.columns {"),
+    ("a step forgets the tracks", STEPS, "        self.strands = sweep.tracks;\n", ""),
+    ("a step forgets the free tracks", STEPS, "        self.free = sweep.free.0;\n", ""),
+    ("a step forgets the stretched nets", STEPS, "        self.extended = sweep.stretched.0;\n", ""),
+    ("late net 0", STEPS, "net == 0 || net > 256", "net > 256"),
+    ("late net 257", STEPS, "net > 256", "net > 257"),
+    ("late net by one byte", STEPS, "net == 0 || net > 256", "net & 255 == 0"),
+    ("22 before 6", STEPS, "if net == 0 || net > 256 {", "if terminals[0] != terminals[1] && (net == 0 || net > 256) {"),
+    ("22 before 21", STEPS, ".contains(&net) {", ".contains(&net) && terminals[0] != terminals[1] {"),
+    ("21 in the top row only", STEPS, "self.rows.as_flattened().contains", "self.rows[0].contains"),
+    ("21 right of the drawn columns only", STEPS, ".contains(&net) {", ".contains(&net) && self.last[net as usize] as usize > self.drawn {"),
+    ("late net in the last drawn column", STEPS, "self.drawn + 1..", "self.drawn.."),
+    ("late net not in the next column", STEPS, "self.drawn + 1..", "self.drawn + 2.."),
+    ("late net not in column n", STEPS, "..self.columns + 1", "..self.columns"),
+    ("late net in column n + 1", STEPS, "..self.columns + 1", "..self.columns + 2"),
+    ("column 0 taken for column 1", STEPS, "column.wrapping_sub(1)).filter(|_| open.contains(&column))",
+     "column.saturating_sub(1)).filter(|_| open.contains(&column.max(1)))"),
+    ("other sides taken for the bottom", STEPS, "get_mut(side as usize)", "get_mut(side.min(1) as usize)"),
+    ("sides of one bit", STEPS, "get_mut(side as usize)", "get_mut((side & 1) as usize)"),
+    ("sides exchanged", STEPS, "get_mut(side as usize)", "get_mut(side as usize ^ 1)"),
+    ("late net on another's pin", STEPS, "**pin == 0", "**pin != net"),
+    ("late net with one terminal", STEPS, "**pin == 0", "[0, net].contains(pin)"),
+    ("late net as dense as the tracks refused", STEPS, "densest(n, &nets) > self.tracks", "densest(n, &nets) >= self.tracks.max(1)"),
+    ("late net over the tracks", STEPS, "densest(n, &nets) > self.tracks", "densest(n, &nets) > self.tracks + 1"),
+    ("rows of a 23", STEPS, "return Err(23);", "*self = placed;\n            return Err(23);"),
+    ("first pin of a 22", STEPS, "            *placed.terminal(column, side).filter(|pin| **pin == 0).ok_or(22u16)? = net;",
+     "            if placed.terminal(column, side).is_none_or(|pin| *pin != 0) {\n"
+     "                *self = placed;\n                return Err(22);\n            }\n"
+     "            *placed.terminal(column, side).unwrap() = net;"),
+    ("late net not taken down", STEPS, "        *self = placed;\n", ""),
+    ("late net's columns not taken down", STEPS, "        placed.know(&nets);\n", ""),
 ]
 
 

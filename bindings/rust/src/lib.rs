@@ -17,14 +17,17 @@
 //! ```
 //!
 //! Where many channels are routed, lend one slice that is always enough: [`route`]
-//! says how long it is.
+//! says how long it is. A [`Sweep`] is driven column by column and takes late nets.
 //!
-//! The library keeps no state, so calls from several threads are independent.
+//! The library keeps no state, as that of a sweep lies in the [`Sweep`], so calls from
+//! several threads are independent.
 
 pub mod raw;
 mod refusal;
+mod sweep;
 
 pub use refusal::Refusal;
+pub use sweep::{Side, Sweep, Terminal};
 
 /// The figures of a routed channel.
 #[derive(Clone, Copy, Debug, PartialEq, Eq)]
@@ -108,7 +111,7 @@ impl NetRecord {
 fn accept<T>(number: u16, value: T) -> Result<T, Refusal> {
     match number {
         0 => Ok(value),
-        _ => Err(Refusal::from_number(number).expect("the library's numbers are 0 to 20")),
+        _ => Err(Refusal::from_number(number).expect("the library's numbers are 0 to 23")),
     }
 }
 

@@ -57,6 +57,150 @@ pub struct Canonical {
     pub length: usize,
 }
 
+#[repr(C)]
+#[derive(Clone, Copy, Debug, PartialEq, Eq)]
+pub struct Started {
+    pub number: u16,
+    pub tracks: usize,
+    pub length: usize,
+}
+
+#[repr(C)]
+#[derive(Clone, Copy, Debug, PartialEq, Eq)]
+pub struct Stepped {
+    pub number: u16,
+    pub drawn: usize,
+    pub finished: bool,
+}
+
+/// The state of a driven sweep, `gaxwethi_sweep` of the header. Every state may be
+/// lent: what is promised holds for one that the call before left, but each call
+/// ends on any.
+#[repr(C)]
+#[derive(Clone, Debug, PartialEq, Eq)]
+pub struct State {
+    pub columns: usize,
+    pub tracks: usize,
+    pub drawn: usize,
+    pub top: [u16; 256],
+    pub bottom: [u16; 256],
+    pub first: [u16; 257],
+    pub last: [u16; 257],
+    pub strands: [u16; 512],
+    pub free: [u64; 8],
+    pub low: [u16; 257],
+    pub high: [u16; 257],
+    pub many: [u16; 257],
+    pub extended: [u64; 8],
+}
+
+impl Default for State {
+    /// Zeros, as for the channel without columns.
+    fn default() -> State {
+        State::filled(0, 0, 0)
+    }
+}
+
+impl State {
+    /// A made-up state: its three sizes, the numbers of its nets and tracks, and the
+    /// words of its sets.
+    pub fn filled(size: usize, number: u16, word: u64) -> State {
+        State {
+            columns: size,
+            tracks: size,
+            drawn: size,
+            top: [number; 256],
+            bottom: [number; 256],
+            first: [number; 257],
+            last: [number; 257],
+            strands: [number; 512],
+            free: [word; 8],
+            low: [number; 257],
+            high: [number; 257],
+            many: [number; 257],
+            extended: [word; 8],
+        }
+    }
+
+    /// `gaxwethi_start` of the header.
+    pub fn start(&mut self, top: &[u16], bottom: &[u16]) -> Started {
+        // SAFETY: pointers and lengths are those of live slices, and the members have
+        // the sizes that the library expects. So it is below too.
+        unsafe {
+            gaxwethi_sweep_start(
+                top.as_ptr(),
+                top.len(),
+                bottom.as_ptr(),
+                bottom.len(),
+                &mut self.columns,
+                &mut self.tracks,
+                &mut self.drawn,
+                self.top.as_mut_ptr(),
+                self.bottom.as_mut_ptr(),
+                self.first.as_mut_ptr(),
+                self.last.as_mut_ptr(),
+                self.strands.as_mut_ptr(),
+                self.free.as_mut_ptr(),
+                self.low.as_mut_ptr(),
+                self.high.as_mut_ptr(),
+                self.many.as_mut_ptr(),
+                self.extended.as_mut_ptr(),
+            )
+        }
+    }
+
+    /// `gaxwethi_step` of the header.
+    pub fn step(&mut self, layout: &mut [u16], k: usize) -> Stepped {
+        unsafe {
+            gaxwethi_sweep_step(
+                self.columns,
+                self.tracks,
+                &mut self.drawn,
+                self.top.as_ptr(),
+                self.bottom.as_ptr(),
+                self.first.as_ptr(),
+                self.last.as_ptr(),
+                self.strands.as_mut_ptr(),
+                self.free.as_mut_ptr(),
+                self.low.as_mut_ptr(),
+                self.high.as_mut_ptr(),
+                self.many.as_mut_ptr(),
+                self.extended.as_mut_ptr(),
+                layout.as_mut_ptr(),
+                layout.len(),
+                k,
+            )
+        }
+    }
+
+    /// `gaxwethi_place` of the header.
+    pub fn place(
+        &mut self,
+        net: u16,
+        column1: usize,
+        side1: u16,
+        column2: usize,
+        side2: u16,
+    ) -> u16 {
+        unsafe {
+            gaxwethi_sweep_place(
+                self.columns,
+                self.tracks,
+                self.drawn,
+                self.top.as_mut_ptr(),
+                self.bottom.as_mut_ptr(),
+                self.first.as_mut_ptr(),
+                self.last.as_mut_ptr(),
+                net,
+                column1,
+                side1,
+                column2,
+                side2,
+            )
+        }
+    }
+}
+
 extern "C" {
     pub fn gaxwethi_density(top: *const u16, n: usize, bottom: *const u16, m: usize) -> Density;
 
@@ -116,4 +260,58 @@ extern "C" {
         bytes: *mut u8,
         len: usize,
     ) -> Canonical;
+
+    pub fn gaxwethi_sweep_start(
+        top: *const u16,
+        n: usize,
+        bottom: *const u16,
+        m: usize,
+        columns: *mut usize,
+        tracks: *mut usize,
+        drawn: *mut usize,
+        upper: *mut u16,
+        lower: *mut u16,
+        first: *mut u16,
+        last: *mut u16,
+        strands: *mut u16,
+        free: *mut u64,
+        low: *mut u16,
+        high: *mut u16,
+        many: *mut u16,
+        extended: *mut u64,
+    ) -> Started;
+
+    pub fn gaxwethi_sweep_step(
+        columns: usize,
+        tracks: usize,
+        drawn: *mut usize,
+        upper: *const u16,
+        lower: *const u16,
+        first: *const u16,
+        last: *const u16,
+        strands: *mut u16,
+        free: *mut u64,
+        low: *mut u16,
+        high: *mut u16,
+        many: *mut u16,
+        extended: *mut u64,
+        layout: *mut u16,
+        len: usize,
+        k: usize,
+    ) -> Stepped;
+
+    pub fn gaxwethi_sweep_place(
+        columns: usize,
+        tracks: usize,
+        drawn: usize,
+        upper: *mut u16,
+        lower: *mut u16,
+        first: *mut u16,
+        last: *mut u16,
+        net: u16,
+        column1: usize,
+        side1: u16,
+        column2: usize,
+        side2: u16,
+    ) -> u16;
 }

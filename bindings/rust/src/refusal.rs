@@ -16,11 +16,12 @@ pub enum Refusal {
     RowLengths = 4,
     /// The channel has over 256 columns, or over 64 for a listing.
     TooManyColumns = 5,
-    /// A row has a number over 256.
+    /// A row has a number over 256, or that of a late net is 0 or over 256.
     NetNumber = 6,
-    /// A net has a single pin.
+    /// A net has a single pin; in a [`Sweep`](crate::Sweep), not exactly two.
     SinglePin = 7,
-    /// The layout slice is shorter than [`need`](crate::need) says.
+    /// The layout slice is shorter than [`need`](crate::need) says; in a step of a
+    /// [`Sweep`](crate::Sweep), than its [`entries`](crate::Sweep::entries).
     LayoutTooShort = 8,
     /// The net table has under 256 records.
     TableTooShort = 9,
@@ -48,11 +49,18 @@ pub enum Refusal {
     /// There is a wire at a terminal without a pin, or at an edge past the
     /// channel's columns; the place is its position.
     UnpinnedWire = 20,
+    /// The number of a late net is in use.
+    NumberInUse = 21,
+    /// A terminal of a late net has a pin, is not right of the last drawn column,
+    /// lies outside the channel, or is that of its other pin.
+    TerminalTaken = 22,
+    /// With a late net the density would be over the tracks.
+    OverTracks = 23,
 }
 
 impl Refusal {
     /// All refusals in the order of their numbers.
-    pub const ALL: [Refusal; 20] = [
+    pub const ALL: [Refusal; 23] = [
         Refusal::RecordLength,
         Refusal::RecordKind,
         Refusal::RecordBody,
@@ -73,14 +81,17 @@ impl Refusal {
         Refusal::OutputTooShort,
         Refusal::MiswiredPin,
         Refusal::UnpinnedWire,
+        Refusal::NumberInUse,
+        Refusal::TerminalTaken,
+        Refusal::OverTracks,
     ];
 
-    /// The papers' number, 1 to 20.
+    /// The papers' number, 1 to 23.
     pub fn number(self) -> u16 {
         self as u16
     }
 
-    /// The refusal of a number; `None` for 0, which is acceptance, and over 20.
+    /// The refusal of a number; `None` for 0, which is acceptance, and over 23.
     pub fn from_number(number: u16) -> Option<Refusal> {
         let at = (number as usize).checked_sub(1)?;
         Self::ALL.get(at).copied()
@@ -95,8 +106,8 @@ impl fmt::Display for Refusal {
             Refusal::RecordBody => "record body of a wrong length",
             Refusal::RowLengths => "rows of different lengths",
             Refusal::TooManyColumns => "too many columns",
-            Refusal::NetNumber => "a number over 256",
-            Refusal::SinglePin => "a net with one pin",
+            Refusal::NetNumber => "a net number out of range",
+            Refusal::SinglePin => "a net of a wrong number of pins",
             Refusal::LayoutTooShort => "layout slice too short",
             Refusal::TableTooShort => "net table under 256 records",
             Refusal::Width => "width under the columns or over 511",
@@ -110,6 +121,9 @@ impl fmt::Display for Refusal {
             Refusal::OutputTooShort => "output slice too short",
             Refusal::MiswiredPin => "a pin with another net's wire",
             Refusal::UnpinnedWire => "a wire at a terminal without a pin",
+            Refusal::NumberInUse => "a late net's number in use",
+            Refusal::TerminalTaken => "a late net's terminal not free",
+            Refusal::OverTracks => "a late net over the tracks",
         };
         write!(f, "refused {}: {reason}", self.number())
     }

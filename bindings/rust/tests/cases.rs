@@ -283,5 +283,6 @@ fn numbers_of_refusals() {
         assert_eq!(Refusal::from_number(number), Some(refusal));
     }
     assert_eq!(Refusal::from_number(0), None);
-    assert_eq!(Refusal::from_number(21), None);
+    assert_eq!(Refusal::ALL.len(), 23);
+    assert_eq!(Refusal::from_number(24), None);
 }

@@ -13,5 +13,6 @@ pub use check::{check, column, Checked};
 pub use list::list;
 pub use record::canonical;
 pub use report::{report, report_drawing};
+pub use route::steps::State;
 pub use route::{formula, need, route, Figures};
 pub use rows::density;

@@ -1,6 +1,7 @@
 //! The sweeps, with an index of each net's strands and bit sets.
 
 mod many_pin;
+pub mod steps;
 mod three_pin;
 mod two_pin;
 

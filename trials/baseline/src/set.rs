@@ -2,7 +2,7 @@
 
 /// A set of numbers up to 511.
 #[derive(Clone, Copy, Default)]
-pub struct Set([u64; 8]);
+pub struct Set(pub [u64; 8]);
 
 impl Set {
     pub fn insert(&mut self, i: usize) {

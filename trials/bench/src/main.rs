@@ -1,5 +1,6 @@
 //! Times the library beside idiomatic Rust of the same algorithm and beside a
-//! plain fill of the layout, in one run, and prints a table in Markdown.
+//! plain fill of the layout, in one run, and prints a table in Markdown; then its
+//! driven sweep beside its own routing in one call.
 //!
 //! `bench [REPETITIONS [COLUMNS]]`: each repetition times every side in turn, so
 //! that a disturbance of the machine falls on all of them; the medians count. A
@@ -9,6 +10,7 @@
 mod channels;
 
 use channels::{cases, Case};
+use gaxwethi::raw::State;
 use gaxwethi::NetRecord;
 use std::hint::black_box;
 use std::time::Instant;
@@ -182,6 +184,56 @@ fn canonical(cases: &[Case], repetitions: usize) -> Vec<f64> {
     medians(vec![Box::new(library), Box::new(rust)], cases, repetitions)
 }
 
+/// A driven sweep from its start to its end, in steps of that many columns: the width.
+fn drive(state: &mut State, case: &Case, layout: &mut [u16], columns: usize) -> usize {
+    state.start(&case.top, &case.bottom);
+    loop {
+        let answer = state.step(layout, columns);
+        if answer.number != 0 || answer.finished {
+            return answer.drawn;
+        }
+    }
+}
+
+/// A driven sweep in single steps, then in one big step, then routing in one call, all
+/// into slices of the formula's length.
+fn driven(cases: &[Case], repetitions: usize) -> Vec<f64> {
+    let most = cases.iter().map(|case| case.room).max().unwrap();
+    let [mut one, mut other, mut third] = [(); 3].map(|()| vec![0u16; most]);
+    let [mut first, mut second] = [(); 2].map(|()| State::default());
+    for case in cases {
+        drive(&mut first, case, &mut one[..case.room], 1);
+        drive(&mut second, case, &mut other[..case.room], usize::MAX);
+        let size = case.drawing.len();
+        let drawn = [&one, &other].map(|layout| digest(&layout[..size]));
+        assert_eq!(drawn, [digest(&case.drawing); 2], "the drawings differ");
+    }
+    let singly = |c: &Case| drive(&mut first, c, &mut one[..c.room], 1);
+    let at_once = |c: &Case| drive(&mut second, c, &mut other[..c.room], usize::MAX);
+    let route = |c: &Case| gaxwethi::route(&c.top, &c.bottom, &mut third[..c.room]).unwrap().width;
+    medians(vec![Box::new(singly), Box::new(at_once), Box::new(route)], cases, repetitions)
+}
+
+/// The table of driven sweeps.
+fn print_driven(columns: usize, repetitions: usize) {
+    println!("\nA driven sweep, its start included, beside routing in one call:\n");
+    println!("| sweep | n | pins | library | route | library / route | goal |");
+    println!("|---|---|---|---|---|---|---|");
+    let times = [16, 64, 256].map(|n| (n, driven(&cases(n, 2, GROUPS * columns / n), repetitions)));
+    let rows = [("steps, one by one", "at most 8"), ("one big step", "at most 1.5")];
+    for (k, (sweep, goal)) in rows.into_iter().enumerate() {
+        for (n, times) in &times {
+            let (library, route) = (times[k], times[2]);
+            println!(
+                "| {sweep} | {n} | 2 | {} | {} | {:.2} | {goal} |",
+                shown(library),
+                shown(route),
+                library / route
+            );
+        }
+    }
+}
+
 /// A time in a fitting unit.
 fn shown(seconds: f64) -> String {
     match seconds * 1e9 {
@@ -223,4 +275,5 @@ fn main() {
             }
         }
     }
+    print_driven(columns, repetitions);
 }

@@ -3,6 +3,7 @@
 use crate::damage::{self, Drawing};
 use crate::library;
 use crate::random::{self, Channel, Rng};
+use crate::steps::KINDS;
 use gaxwethi::raw::{Canonical, Checked, Density, Listed, Need, Part, Routed, TEXT};
 use second::rows::Family;
 use std::fmt::Debug;
@@ -11,8 +12,8 @@ use std::fmt::Debug;
 pub struct Tally {
     pub channels: u64,
     pub calls: u64,
-    /// How often each number was the answer, 0 to 20.
-    pub numbers: [u64; 21],
+    /// How often each number was the answer, 0 to 23.
+    pub numbers: [u64; 24],
     /// How often the checker refused each kind of wrong pin edge.
     pub pin_faults: [u64; PIN_FAULTS.len()],
     /// How many channels each sweep draws: two-pin, three-pin, many-pin.
@@ -20,6 +21,8 @@ pub struct Tally {
     /// Of each sweep, how many pairs of channels of equal density begin alike, and how
     /// many of them are drawn differently there.
     pub beginnings: [[u64; 2]; 3],
+    /// How often each kind of call of a driven sweep came up.
+    pub driven: [u64; KINDS.len()],
     pub differences: u64,
     /// The first differences, in words.
     pub shown: Vec<String>,
@@ -73,10 +76,11 @@ impl Tally {
         Tally {
             channels: 0,
             calls: 0,
-            numbers: [0; 21],
+            numbers: [0; 24],
             pin_faults: [0; PIN_FAULTS.len()],
             sweeps: [0; 3],
             beginnings: [[0; 2]; 3],
+            driven: [0; KINDS.len()],
             differences: 0,
             shown: Vec::new(),
             text: vec![MARK; TEXT].into_boxed_slice().try_into().unwrap(),
@@ -92,12 +96,13 @@ impl Tally {
         self.numbers.iter_mut().zip(other.numbers).for_each(|(a, b)| *a += b);
         self.pin_faults.iter_mut().zip(other.pin_faults).for_each(|(a, b)| *a += b);
         self.sweeps.iter_mut().zip(other.sweeps).for_each(|(a, b)| *a += b);
+        self.driven.iter_mut().zip(other.driven).for_each(|(a, b)| *a += b);
         let theirs = other.beginnings.as_flattened();
         self.beginnings.as_flattened_mut().iter_mut().zip(theirs).for_each(|(a, b)| *a += b);
     }
 
     /// Compares two answers; `number` is the second router's.
-    fn same<T: PartialEq + Debug>(
+    pub fn same<T: PartialEq + Debug>(
         &mut self,
         call: &str,
         c: &Channel,
@@ -140,6 +145,9 @@ impl Tally {
             let full = random::full(rng);
             self.records(rng, &full);
         }
+        self.driven(rng, &c);
+        let roomy = random::roomy(rng);
+        self.driven(rng, &roomy);
     }
 
     /// Density and need.

@@ -7,10 +7,12 @@ mod compare;
 mod damage;
 mod library;
 mod random;
+mod steps;
 
 use compare::{Tally, PIN_FAULTS};
 use std::process::ExitCode;
 use std::sync::atomic::{AtomicU64, Ordering};
+use steps::KINDS;
 
 const CHANNELS: u64 = 120_000;
 const SEED: u64 = 20_241_016;
@@ -61,6 +63,10 @@ fn main() -> ExitCode {
     let told = pairs > 0 && others.iter().all(|[_, different]| *different > 0);
     let [two, three, many] = all.beginnings.map(|[pairs, other]| format!("{other} of {pairs}"));
     println!("begun alike, drawn otherwise: two-pin {two}, three-pin {three}, many-pin {many}");
+    let driven: Vec<String> =
+        KINDS.iter().zip(all.driven).map(|(kind, count)| format!("{kind}: {count}")).collect();
+    println!("driven sweeps: {}", driven.join(", "));
+    let undriven = all.driven.iter().filter(|&&count| count == 0).count();
     println!(
         "seed {seed}: {} channels, {} answers compared, {} differences, {:.0} s",
         all.channels,
@@ -69,7 +75,7 @@ fn main() -> ExitCode {
         start.elapsed().as_secs_f64()
     );
     if untried > 0 {
-        println!("{untried} of the numbers 0 to 20 never came up: try more channels");
+        println!("{untried} of the numbers 0 to 23 never came up: try more channels");
     }
     if unseen > 0 {
         println!("{unseen} of the wrong pin edges never came up: try more channels");
@@ -79,5 +85,9 @@ fn main() -> ExitCode {
             "no two-pin pairs that begin alike, or no others drawn otherwise: try more channels"
         );
     }
-    ExitCode::from((all.differences > 0 || untried > 0 || unseen > 0 || !told) as u8)
+    if undriven > 0 {
+        println!("{undriven} of the kinds in driven sweeps never came up: try more channels");
+    }
+    let untold = untried > 0 || unseen > 0 || !told || undriven > 0;
+    ExitCode::from((all.differences > 0 || untold) as u8)
 }

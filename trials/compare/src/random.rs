@@ -116,9 +116,36 @@ pub fn any(rng: &mut Rng) -> Channel {
     if rng.percent(40) {
         add_empty_columns(rng, &mut slots);
     }
+    channel(&slots)
+}
+
+/// The channel of these places, column by column, top before bottom.
+fn channel(slots: &[u16]) -> Channel {
     let top = slots.iter().step_by(2).copied().collect();
     let bottom = slots.iter().skip(1).step_by(2).copied().collect();
     Channel { top, bottom }
+}
+
+/// A channel of two-pin nets, mostly with room for more of them: spread, local or dense,
+/// some taken away, some with more empty columns.
+pub fn roomy(rng: &mut Rng) -> Channel {
+    let mut slots = vec![0; 2 * columns(rng)];
+    match rng.under(3) {
+        0 => {
+            let share = rng.from(5, 100);
+            spread(rng, &mut slots, 2, 2, share)
+        }
+        1 => local(rng, &mut slots, 2),
+        _ => halves(rng, &mut slots),
+    }
+    let share = rng.pick(&[0, 10, 40]);
+    for gone in (1..=256).filter(|_| rng.percent(share)).collect::<Vec<u16>>() {
+        slots.iter_mut().filter(|net| **net == gone).for_each(|net| *net = 0);
+    }
+    if rng.percent(40) {
+        add_empty_columns(rng, &mut slots);
+    }
+    channel(&slots)
 }
 
 /// A channel of 256 nets, the most that there can be.

@@ -1,5 +1,5 @@
-//! A second knock-knee channel router, checker, net report and writer of canonical
-//! records.
+//! A second knock-knee channel router, checker, net report, writer of canonical
+//! records and sweep that is driven column by column.
 //!
 //! It follows documents 01 and 02, and for nets of two or three pins the choices
 //! in docs/THREE-PIN.md, and shares no code with the library. It keeps to their
@@ -17,6 +17,7 @@ pub use check::{check, column};
 pub use record::{canonical, list, printed};
 pub use report::{report, report_drawing};
 pub use rows::{density, formula};
+pub use sweep::steps::{Started, Stepped, Steps, Terminal};
 pub use sweep::{need, route};
 
 /// The most columns that a library call takes.

@@ -2,6 +2,7 @@
 //! file of their own.
 
 mod many_pin;
+pub mod steps;
 mod three_pin;
 mod two_pin;
 

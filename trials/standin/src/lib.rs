@@ -1,6 +1,7 @@
 //! The baseline behind the library's C calls: it stands in for the library
 //! where the trials themselves are tried out on planted faults.
 
+use baseline::State;
 use std::panic::{catch_unwind, AssertUnwindSafe};
 use std::slice::{from_raw_parts, from_raw_parts_mut};
 
@@ -38,6 +39,20 @@ pub struct Listed {
 pub struct Part {
     offset: usize,
     length: usize,
+}
+
+#[repr(C)]
+pub struct Started {
+    number: u16,
+    tracks: usize,
+    length: usize,
+}
+
+#[repr(C)]
+pub struct Stepped {
+    number: u16,
+    drawn: usize,
+    finished: bool,
 }
 
 /// The number that a call answers with where a planted fault made it panic.
@@ -185,4 +200,115 @@ pub unsafe extern "C" fn gaxwethi_canonical(
     let (top, bottom) = (from_raw_parts(top, n), from_raw_parts(bottom, m));
     let bytes = from_raw_parts_mut(bytes, len);
     figure(|| baseline::canonical(top, bottom, bytes))
+}
+
+/// # Safety
+#[no_mangle]
+pub unsafe extern "C" fn gaxwethi_sweep_start(
+    top: *const u16,
+    n: usize,
+    bottom: *const u16,
+    m: usize,
+    columns: &mut usize,
+    tracks: &mut usize,
+    drawn: &mut usize,
+    upper: &mut [u16; 256],
+    lower: &mut [u16; 256],
+    first: &mut [u16; 257],
+    last: &mut [u16; 257],
+    strands: &mut [u16; 512],
+    free: &mut [u64; 8],
+    low: &mut [u16; 257],
+    high: &mut [u16; 257],
+    many: &mut [u16; 257],
+    extended: &mut [u64; 8],
+) -> Started {
+    let (top, bottom) = (from_raw_parts(top, n), from_raw_parts(bottom, m));
+    let (number, state) = match guarded(|| State::start(top, bottom)) {
+        Ok(state) => (0, state),
+        Err(number) => (number, State::default()),
+    };
+    (*columns, *tracks, *drawn) = (state.columns, state.tracks, state.drawn);
+    [*upper, *lower] = state.rows;
+    (*first, *last) = (state.first, state.last);
+    (*strands, *free) = (state.strands, state.free);
+    (*low, *high, *many) = (state.low, state.high, state.many);
+    *extended = state.extended;
+    Started { number, tracks: state.tracks, length: state.length() }
+}
+
+/// # Safety
+#[no_mangle]
+pub unsafe extern "C" fn gaxwethi_sweep_step(
+    columns: usize,
+    tracks: usize,
+    drawn: &mut usize,
+    upper: &[u16; 256],
+    lower: &[u16; 256],
+    first: &[u16; 257],
+    last: &[u16; 257],
+    strands: &mut [u16; 512],
+    free: &mut [u64; 8],
+    low: &mut [u16; 257],
+    high: &mut [u16; 257],
+    many: &mut [u16; 257],
+    extended: &mut [u64; 8],
+    layout: *mut u16,
+    len: usize,
+    k: usize,
+) -> Stepped {
+    let layout = from_raw_parts_mut(layout, len);
+    let mut state = State {
+        columns,
+        tracks,
+        drawn: *drawn,
+        rows: [*upper, *lower],
+        first: *first,
+        last: *last,
+        strands: *strands,
+        free: *free,
+        low: *low,
+        high: *high,
+        many: *many,
+        extended: *extended,
+    };
+    let answer = guarded(|| state.step(layout, k));
+    (*drawn, *strands, *free) = (state.drawn, state.strands, state.free);
+    (*low, *high, *many) = (state.low, state.high, state.many);
+    *extended = state.extended;
+    match answer {
+        Ok((drawn, finished)) => Stepped { number: 0, drawn, finished },
+        Err(number) => Stepped { number, drawn: 0, finished: false },
+    }
+}
+
+/// # Safety
+#[no_mangle]
+pub unsafe extern "C" fn gaxwethi_sweep_place(
+    columns: usize,
+    tracks: usize,
+    drawn: usize,
+    upper: &mut [u16; 256],
+    lower: &mut [u16; 256],
+    first: &mut [u16; 257],
+    last: &mut [u16; 257],
+    net: u16,
+    column1: usize,
+    side1: u16,
+    column2: usize,
+    side2: u16,
+) -> u16 {
+    let mut state = State {
+        columns,
+        tracks,
+        drawn,
+        rows: [*upper, *lower],
+        first: *first,
+        last: *last,
+        ..State::default()
+    };
+    let answer = guarded(|| state.place(net, [(column1, side1), (column2, side2)]));
+    [*upper, *lower] = state.rows;
+    (*first, *last) = (state.first, state.last);
+    answer.err().unwrap_or(0)
 }

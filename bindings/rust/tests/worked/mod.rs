@@ -10,7 +10,7 @@ pub fn cases(text: &str) -> impl Iterator<Item = &str> {
 
 /// The numbers of a line after its first word, where 5x199 is the number 5, 199
 /// times; names between the numbers are passed over.
-fn numbers(line: &str) -> Vec<usize> {
+pub fn numbers(line: &str) -> Vec<usize> {
     let tokens = line.split(' ').skip(1);
     let run = |token: &str| {
         let (number, times) = token.split_once('x').unwrap_or((token, "1"));

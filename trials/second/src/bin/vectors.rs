@@ -1,10 +1,11 @@
-//! Compares the second router, checker, net report and canonical record with files
-//! of worked cases: `vectors FILE ...`, where the names end in routes.txt, needs.txt,
-//! checks.txt, listings.txt, reports.txt, long.txt, records.txt or pairs.txt. A case
-//! ends at an empty line.
+//! Compares the second router, checker, net report, canonical record and sweep column
+//! by column with files of worked cases: `vectors FILE ...`, where the names end in
+//! routes.txt, needs.txt, checks.txt, listings.txt, reports.txt, long.txt, records.txt,
+//! pairs.txt, steps.txt or short.txt. A case ends at an empty line; cases of games are
+//! skipped.
 
 use second::rows::Family;
-use second::{Checked, MOST_COLUMNS, MOST_NETS};
+use second::{Checked, Started, Stepped, Steps, Terminal, MOST_COLUMNS, MOST_NETS};
 use std::process::ExitCode;
 use std::str::FromStr;
 
@@ -23,6 +24,11 @@ fn lines<'a, T: FromStr>(case: &'a [&str], word: &'a str) -> impl Iterator<Item 
 /// The first of these lines.
 fn values<T: FromStr>(case: &[&str], word: &str) -> Vec<T> {
     lines(case, word).next().unwrap_or_else(|| panic!("no line {word:?} in {case:?}"))
+}
+
+/// The top or the bottom rows of a case with more than one channel.
+fn rows(case: &[&str], word: &str) -> Vec<Vec<u16>> {
+    lines(case, word).collect()
 }
 
 /// A run of equal entries: 5x199 is the entry 5, 199 times.
@@ -204,8 +210,7 @@ fn first_columns(top: &[u16], bottom: &[u16], k: usize) -> Option<(usize, Vec<u1
 /// Whether two channels of two-pin nets and equal density, whose first columns agree,
 /// have the worked ones there in their drawings, both the same.
 fn pair_agrees(case: &[&str]) -> bool {
-    let rows = |word| lines::<u16>(case, word).collect::<Vec<_>>();
-    let (tops, bottoms) = (rows("top"), rows("bottom"));
+    let (tops, bottoms) = (rows(case, "top"), rows(case, "bottom"));
     let k = values::<usize>(case, "same")[0];
     let [one, other] = [0, 1].map(|i| first_columns(&tops[i], &bottoms[i], k));
     let agree = |rows: &[Vec<u16>]| rows[0].iter().zip(&rows[1]).take(k).all(|(p, q)| p == q);
@@ -213,6 +218,77 @@ fn pair_agrees(case: &[&str]) -> bool {
         && one == other
         && agree(&tops)
         && agree(&bottoms)
+}
+
+/// Whether a step agrees, finished at the width and not before, and changes just the
+/// columns that it draws.
+fn step_agrees(steps: &mut Steps, layout: &mut [u16], step: &[usize], width: usize) -> bool {
+    let (kept, entries) = (layout.to_vec(), 2 * steps.tracks() + 1);
+    let (left, right) = (steps.drawn() * entries, step[1] * entries);
+    let got = steps.step(layout, step[0]);
+    got == Stepped { number: 0, drawn: step[1], finished: step[1] == width }
+        && layout[..left] == kept[..left]
+        && layout[right..] == kept[right..]
+}
+
+/// Whether a step with a slice one entry too short is refused, and changes neither the
+/// sweep nor the slice.
+fn short_step_agrees(steps: &mut Steps, layout: &mut [u16], step: &[usize]) -> bool {
+    let (before, kept) = (steps.clone(), layout.to_vec());
+    let lent = layout.len() - 1;
+    let got = steps.step(&mut layout[..lent], step[0]);
+    got == Stepped { number: step[1] as u16, ..Stepped::default() }
+        && *steps == before
+        && layout == kept
+}
+
+/// Whether a late net is answered as in a case; a refused one changes nothing.
+fn place_agrees(steps: &mut Steps, place: &[usize]) -> bool {
+    let before = steps.clone();
+    let terminal = |i: usize| Terminal { column: place[i], side: place[i + 1] };
+    let number = steps.place(place[0] as u16, [terminal(1), terminal(3)]);
+    number as usize == place[5] && (number == 0 || *steps == before)
+}
+
+/// Whether a sweep driven as in a case gives its answers, and at the end its channel
+/// with all late nets and its drawing, the one-call router's.
+fn steps_agree(case: &[&str]) -> bool {
+    const KEPT: u16 = 999;
+    let (tops, bottoms) = (rows(case, "top"), rows(case, "bottom"));
+    // Another channel before, of which nothing must stay.
+    let mut steps = Steps::default();
+    steps.start(&[1, 2], &[2, 1]);
+    steps.step(&mut [0; 15], 1);
+    let started = steps.start(&tops[0], &bottoms[0]);
+    let start = values::<usize>(case, "start");
+    let wanted = Started { number: start[0] as u16, tracks: start[1], slice: start[2] };
+    if started != wanted || started.number != 0 {
+        return started == wanted && case.len() == 3 && steps == Steps::default();
+    }
+    let width = values::<usize>(case, "finished")[0];
+    let mut layout = vec![KEPT; started.slice];
+    let mut calls = case[3..].iter().take_while(|line| !line.starts_with("finished "));
+    let agree = calls.all(|line| {
+        let given = numbers::<usize>(line);
+        match line.split(' ').next() {
+            Some("step") => step_agrees(&mut steps, &mut layout, &given, width),
+            Some("short") => short_step_agrees(&mut steps, &mut layout, &given),
+            Some("place") => place_agrees(&mut steps, &given),
+            _ => panic!("no call: {line:?}"),
+        }
+    });
+    if !agree {
+        return false;
+    }
+    let (drawn, behind) = layout.split_at(width * (2 * started.tracks + 1));
+    let mut routed = vec![0; drawn.len()];
+    let figures = second::route(&tops[1], &bottoms[1], &mut routed);
+    steps.finished()
+        && steps.rows() == (&tops[1], &bottoms[1])
+        && drawing_agrees(case, drawn)
+        && behind.iter().all(|&entry| entry == KEPT)
+        && figures.is_ok_and(|f| (f.tracks, f.width) == (started.tracks, width))
+        && routed == drawn
 }
 
 /// Whether a case of a file agrees, by the end of the file's name.
@@ -225,8 +301,14 @@ fn kind(file: &str) -> fn(&[&str]) -> bool {
         _ if file.ends_with("reports.txt") || file.ends_with("long.txt") => report_agrees,
         _ if file.ends_with("records.txt") => record_agrees,
         _ if file.ends_with("pairs.txt") => pair_agrees,
-        _ => panic!("{file}: neither routes, needs, checks, listings, reports, records nor pairs"),
+        _ if file.ends_with("steps.txt") || file.ends_with("short.txt") => steps_agree,
+        _ => panic!("{file}: no kind of worked cases has this name"),
     }
+}
+
+/// Whether a case is of Job 13, which is skipped.
+fn is_game(case: &[&str]) -> bool {
+    case[0].starts_with("game ")
 }
 
 /// Runs the cases of a file; returns whether there are some and all agree.
@@ -234,9 +316,14 @@ fn run(file: &str) -> bool {
     let text = std::fs::read_to_string(file).expect("a file of cases");
     let lines: Vec<&str> = text.lines().collect();
     let cases: Vec<_> = lines.split(|line| line.is_empty()).filter(|c| !c.is_empty()).collect();
+    let (games, cases): (Vec<_>, Vec<_>) = cases.into_iter().partition(|c| is_game(c));
     let agrees = kind(file);
     let different = cases.iter().filter(|case| !agrees(case)).count();
-    println!("{file}: {} cases, {different} different", cases.len());
+    print!("{file}: {} cases, {different} different", cases.len());
+    match games.len() {
+        0 => println!(),
+        skipped => println!(", {skipped} games skipped"),
+    }
     !cases.is_empty() && different == 0
 }
 
