@@ -1,4 +1,5 @@
--- The arrays and sets that the router works in, and what they hold: what its private functions promise each other. No promise of a public call rests on these.
+-- The arrays and sets that the router works in, and what they hold: what its private functions promise each other. No promise of a public call rests on
+-- these, but that `State` is said in their words.
 use Prim.Native.Nat.{ℕ, _+_, _*_, _%_, _≤_, _<_}
 use mathlib.Core.Path.{_≡_}
 use mathlib.Core.List.{List, _++_}
