@@ -7,15 +7,15 @@ use mathlib.Core.List.{List, [], _++_}
 use native.Mathlib.Omega.{arith}
 use native.Mathlib.Nat.{suc-mul, mul-le-mul-right}
 use lib.Dec.{eqb, ltb}
-use lib.ListN.{length, getD, drop, drop-of-length-le, List·getD-eq-default}
-use Rattle.grid.specs.Channel.{pick, times, right}
+use lib.ListN.{length, getD, drop, List·getD-eq-default}
+use Rattle.grid.specs.Channel.{pick}
 use Rattle.grid.specs.Refusals.{ifAccepted}
 use Rattle.grid.proofs.Tests.{not-both, below-or, and-none, and-true, ltb-true, ltb-false, lt-ltb, le-ltb, eq-eqb, ne-eqb}
 use Rattle.sets.specs.Member.{member, LowestFrom}
 use Rattle.sweep.specs.Tracks.{many}
 use Rattle.sweep.specs.Drawing.{later, gap, drawn, width}
 use Rattle.sweep.proofs.Solved.{width-most}
-use Rattle.sweep.proofs.Drawing.Past.{some-left, none-left, drawn-length-past, width-least}
+use Rattle.sweep.proofs.Drawing.Past.{right-past, some-left, none-left, drawn-length-past, width-least}
 use Rattle.router.specs.Answers.{formulaLength}
 use Rattle.router.specs.Working.{extendedBy, DrawnTo}
 use Rattle.router.specs.State.{Standing}
@@ -27,18 +27,17 @@ use Rattle.stepwise.specs.Working.{DrawsOn}
 
 -- past column n no net has pins to come
 later-past : (tp bt : List ℕ) (c v : ℕ) → length bt ≡ length tp → length tp ≤ c → later tp bt c v ≡ false
-unfolding later right times
-later-past tp bt c v e p =
-    rw (drop-of-length-le tp {i = c} p, drop-of-length-le bt {i = c} (omega arith)) (and-none (not (eqb v 0)) false refl)
+unfolding later
+later-past tp bt c v e p = rw (right-past 0 tp bt (sym e) c v p) (and-none (not (eqb v 0)) false refl)
 
 module _ {tp bt : List ℕ} {t c : ℕ} {up lo first last a f low high number s : List ℕ} (S : Standing tp bt t c up lo first last a f low high number s) where
   -- THE WIDTH is n + t/2 at most
-  standing-width : width t tp bt ≤ length tp + t / 2
-  standing-width = width-most t tp bt (standing-fit S) (standing-enough S)
+  standing-half : width t tp bt ≤ length tp + t / 2
+  standing-half = width-most t tp bt (standing-fit S) (standing-enough S)
 
   -- so no column is over 511
   standing-far : c ≤ 511
-  standing-far = omega (arith, standing-width, standing-ready S .most, S .few, S .within)
+  standing-far = omega (arith, standing-half, standing-ready S .most, S .few, S .within)
 
   -- A NUMBER OVER 511 is no column's
   pub left-over : 511 < c → false ≡ ltb c (width t tp bt)
@@ -117,7 +116,7 @@ module _ {tp bt : List ℕ} {t c : ℕ} {up lo first last : List ℕ} where
     draws-next {n} en room same here is next =
         let h : e < width t tp bt = ltb-true e (width t tp bt) (sym is ∙ here) in
         let g = next (D .stands) h (standing-far (D .stands))
-        (room-for e (width t tp bt) (n + t / 2) (2 * t + 1) (length l₁) h (omega (arith, standing-width (D .stands))) (omega arith)) in
+        (room-for e (width t tp bt) (n + t / 2) (2 * t + 1) (length l₁) h (omega (arith, standing-half (D .stands))) (omega arith)) in
         record { drawn = omega (arith, D .drawn, g .0 .within); stands = g .0; shows = λ l₀ d. g .1 l₀ (D .shows l₀ d) }
 
     -- where none is left, as many as there are

@@ -78,7 +78,7 @@ module _ (t : ℕ) (top bottom : List ℕ) (same : length top ≡ length bottom)
   empty-past c p = empty-at top bottom c (List·getD-eq-default top 0 p) (List·getD-eq-default bottom 0 (omega arith))
 
   -- and no net has pins to come
-  right-past : (c v : ℕ) → length top ≤ c → right top bottom c v ≡ 0
+  pub right-past : (c v : ℕ) → length top ≤ c → right top bottom c v ≡ 0
   unfolding right times
   right-past c v p = rw (drop-of-length-le top {i = c} p, drop-of-length-le bottom {i = c} (omega arith))
 
