@@ -6,6 +6,7 @@ pub mod Sums
 -- rows, their nets, and drawings
 pub mod Rows
 pub mod Nets
+pub mod Places
 pub mod Crossing
 pub mod Drawings
 -- what the code goes by

@@ -18,12 +18,12 @@ use Rattle.grid.proofs.Rows.{before, no-right, left-right, left-suc}
 
 -- TABLES
 
-length-from : (f : ℕ → ℕ) (i k : ℕ) → length (from f i k) ≡ k
+pub length-from : (f : ℕ → ℕ) (i k : ℕ) → length (from f i k) ≡ k
 unfolding from
 length-from f i zero = refl
 length-from f i (suc k) = ap suc (length-from f (suc i) k)
 
-from-at : (f : ℕ → ℕ) (i k j : ℕ) → j < k → getD (from f i k) j 0 ≡ f (i + j)
+pub from-at : (f : ℕ → ℕ) (i k j : ℕ) → j < k → getD (from f i k) j 0 ≡ f (i + j)
 unfolding from
 from-at f i zero j h = absurd (omega arith)
 from-at f i (suc k) zero h = ap f (omega arith)

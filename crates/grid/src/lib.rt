@@ -8,6 +8,7 @@ ghost use mathlib.Core.Path.{_≡_};
 ghost use Prim.Native.Nat.{min};
 ghost use Rattle.grid.specs.Channel.{over, pins as pinsOf};
 ghost use Rattle.grid.specs.Nets.{firstColumn, lastColumn, table, zeroTable};
+ghost use Rattle.grid.specs.Places.{noRow};
 ghost use Rattle.grid.specs.Refusals.{ifAccepted};
 ghost use Rattle.grid.specs.Channel.{rowsRefused, density as densityOf};
 ghost use Rattle.grid.specs.Answers.{numberOf, sizeOf, noSize, countNumber, countDensity, refusedWithin, acceptedSize, rowCheck, densityCount};
@@ -73,6 +74,20 @@ pub fn zeros() -> [u16; 257]
     ensures { λ r. ⌜ r ≡ zeroTable ⌝ }
 {
     [0u16; 257]
+}
+
+// 256 places for the numbers of a row, with zeros in all of them.
+pub fn no_row() -> [u16; 256]
+    ensures { λ r. ⌜ r ≡ noRow ⌝ }
+{
+    [0u16; 256]
+}
+
+// How many columns a channel has whose rows stand in 256 places: at most these.
+pub fn columns_held(columns: usize) -> usize
+    ensures { λ r. ⌜ r ≡ min columns 256 ⌝ }
+{
+    if columns < 256 { columns } else { 256 }
 }
 
 // Refusals 4 to 6 of the rows: lengths that differ, too many columns, a number over 256. 0 for none.

@@ -1,20 +1,16 @@
 -- Document 02, Job 10, "a sweep it can drive one column at a time": the arrays that stand for a channel of two-pin nets with c columns drawn on t tracks, as
 -- the caller of such a sweep holds them.
-use Prim.Native.Nat.{ℕ, _-_, _≤_}
+use Prim.Native.Nat.{ℕ, _≤_}
 use mathlib.Core.Path.{_≡_}
 use mathlib.Core.Bool.{false}
-use mathlib.Core.List.{List, _++_}
-use lib.ListN.{length, replicate}
+use mathlib.Core.List.{List}
 use Rattle.grid.specs.declared.Family.the-variants.{TwoPin}
 use Rattle.grid.specs.Channel.{density, family, rowsRefused}
 use Rattle.grid.specs.Nets.{firstColumn, lastColumn, table}
+use Rattle.grid.specs.Places.{padded}
 use Rattle.sets.specs.Member.{member}
 use Rattle.sweep.specs.Drawing.{gap, width}
 use Rattle.router.specs.Working.{Frees, Keeps, blank, noNets}
-
--- a row in 256 places, with zeros behind it
-unfoldable pub padded : List ℕ → List ℕ
-padded row = row ++ replicate (256 - length row) 0
 
 -- THE ARRAYS THAT STAND FOR A CHANNEL with c columns drawn on t tracks: its rows, each net's first and last column, the t tracks a in gap c, the set f of
 -- the free ones, each net's lowest and highest strand and how many it has, and the set s of the extended nets. c goes up to the width: past column n the

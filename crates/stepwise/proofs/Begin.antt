@@ -15,28 +15,26 @@ use Rattle.grid.specs.declared.RowCheck.the-variants.{Fit, Refused}
 use Rattle.grid.specs.declared.Size.{Size}
 use Rattle.grid.specs.Channel.{pick, times, pins, largest, density, pinsWithin, firstTwoTo, family, rowsRefused}
 use Rattle.grid.specs.Nets.{firstTo, lastTo, firstColumn, lastColumn, from, table, zeroTable}
+use Rattle.grid.specs.Places.{padded, noRow}
 use Rattle.grid.specs.Answers.{numberOf, sizeOf, checkOf, acceptedSize, rowCheck}
 use Rattle.grid.specs.Refusals.{firstRefusal, ifAccepted}
 use Rattle.grid.proofs.Answers.{first-past, no-later, check-number, check-figures, accepted-new}
 use Rattle.grid.proofs.OpenNets.{density-small}
+use Rattle.grid.proofs.Places.{no-row-length}
 use Rattle.grid.proofs.Rows.{rows-fit, rows-short}
 use Rattle.placing.proofs.Taken.{fit-accepted, two-pin}
 use Rattle.router.specs.Answers.{formulaLength}
-use Rattle.router.specs.State.{padded, Begun}
+use Rattle.router.specs.State.{Begun}
 use Rattle.router.proofs.Laws.Standing.{standing-begins}
 use Rattle.stepwise.specs.declared.Started.{Started}
 use Rattle.stepwise.specs.Sweep.{State, stateOf, Stands, startRefused, started, Starts}
-use Rattle.stepwise.specs.Working.{isTwoPin, noRow, Laid}
+use Rattle.stepwise.specs.Working.{isTwoPin, Laid}
 
 -- ROWS IN 256 PLACES
 
 -- the first i numbers of a row, with zeros behind them
 abbrev pub rowTo : List ℕ → ℕ → List ℕ
 rowTo = paste noRow 0
-
-pub no-row-length : length noRow ≡ 256
-unfolding noRow
-no-row-length = refl
 
 no-row-rest : (i : ℕ) → i ≤ 256 → drop i noRow ≡ replicate (256 - i) 0
 unfolding noRow

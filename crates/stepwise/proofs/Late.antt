@@ -1,50 +1,30 @@
 -- A late net in a state that stands for a channel: copies of its rows, the net placed in them, and the state with them. Assumes nothing.
-use Prim.Native.Nat.{ℕ, zero, suc, _-_, _≤_, _<_, min}
+use Prim.Native.Nat.{ℕ, zero, suc, _≤_, _<_, min}
 use mathlib.Core.Path.{_≡_, refl, sym, ap, ap₂, subst, _∙_}
 use mathlib.Core.Bool.{Bool, true, false}
 use mathlib.Core.Logic.{_≢_}
 use mathlib.Core.List.{List, _++_}
 use native.Mathlib.Omega.{arith}
 use lib.Dec.{ltb}
-use lib.ListN.{length, take, drop, replicate, length-append, length-replicate}
-use lib.Seq.{length-take-le, take-at, drop-at}
+use lib.ListN.{length, take, drop, length-append}
+use lib.Seq.{take-at}
 use Rattle.grid.specs.declared.RowCheck.{RowCheck}
 use Rattle.grid.specs.declared.Size.{Size}
 use Rattle.grid.specs.Channel.{pick, density, rowsRefused}
 use Rattle.grid.specs.Nets.{firstColumn, lastColumn, table}
+use Rattle.grid.specs.Places.{padded}
 use Rattle.grid.specs.Answers.{numberOf, sizeOf, acceptedSize, rowCheck}
 use Rattle.grid.specs.Refusals.{firstRefusal, ifAccepted}
 use Rattle.grid.proofs.Answers.{first-here, check-number, check-figures, accepted-new, accepted-old}
+use Rattle.grid.proofs.Places.{padded-length, padded-row, padded-other, part-length}
 use Rattle.grid.proofs.Rows.{rows-fit, rows-short}
 use Rattle.grid.proofs.Tests.{lt-ltb, le-ltb}
 use Rattle.placing.specs.Placing.{placeRefused, withPins, placedTop, placedBottom}
 use Rattle.placing.proofs.Pins.{both-length}
 use Rattle.placing.proofs.Placed.{placed-within, placed-length-top, placed-length-bottom, placed-before-top, placed-before-bottom}
 use Rattle.placing.proofs.Placed.{placed-accepted, placed-pairs}
-use Rattle.router.specs.State.{padded}
 use Rattle.router.proofs.Laws.Standing.{standing-late}
 use Rattle.stepwise.specs.Sweep.{stateOf, Stands, lateRefused, PlacesLate, KeptIfRefused}
-
--- A ROW IN 256 PLACES
-
-padded-length : (l : List ℕ) → length l ≤ 256 → length (padded l) ≡ 256
-unfolding padded
-padded-length l h = let e = length-append l (replicate (256 - length l) 0) in let f = length-replicate {A = ℕ} (256 - length l) 0 in omega (arith, e, f)
-
--- its first places hold the row
-padded-row : (l : List ℕ) (n : ℕ) → n ≡ length l → take n (padded l) ≡ l
-unfolding padded
-padded-row l n e = take-at l (replicate (256 - length l) 0) n (sym e)
-
--- and may be those of another row as long
-padded-other : (l m : List ℕ) (n : ℕ) → n ≡ length l → length m ≡ length l → m ++ drop n (padded l) ≡ padded m
-unfolding padded
-padded-other l m n e h =
-    ap (λ (z : List ℕ). m ++ z) (drop-at l (replicate (256 - length l) 0) n (sym e) ∙ ap (λ (k : ℕ). replicate {A = ℕ} (256 - k) 0) (sym h))
-
--- the part of the first n places of an array is n long
-pub part-length : (columns n : ℕ) (xs : List ℕ) → n ≡ min columns 256 → length xs ≡ 256 → n ≡ length (take n xs)
-part-length columns n xs e h = sym (length-take-le n xs (omega arith))
 
 -- THE NET PLACED IN COPIES: xs and ys are the copies of the rows, k is the answer of the placing, xs′ and ys′ are their first n places after it
 pub record Copied (columns drawn net column1 side1 column2 side2 n k : ℕ) (upper lower xs ys xs′ ys′ : List ℕ) : Type 0 where

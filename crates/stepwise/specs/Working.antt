@@ -3,12 +3,13 @@ use Prim.Native.Nat.{ℕ, _+_, min}
 use mathlib.Core.Path.{_≡_}
 use mathlib.Core.Bool.{Bool, true, false}
 use mathlib.Core.List.{List}
-use lib.ListN.{length, replicate}
+use lib.ListN.{length}
 use Rattle.grid.specs.declared.Family.{Family}
 use Rattle.grid.specs.declared.Family.the-variants.{TwoPin, ThreePin, ManyPin}
+use Rattle.grid.specs.Places.{padded}
 use Rattle.sweep.specs.Drawing.{width}
 use Rattle.router.specs.Working.{DrawnTo}
-use Rattle.router.specs.State.{padded, Standing, Begun}
+use Rattle.router.specs.State.{Standing, Begun}
 use Rattle.stepwise.specs.Sweep.{State}
 
 -- the family that this sweep takes
@@ -16,10 +17,6 @@ abbrev pub isTwoPin : Family → Bool
 isTwoPin TwoPin = true
 isTwoPin ThreePin = false
 isTwoPin ManyPin = false
-
--- 256 places without a pin
-unfoldable pub noRow : List ℕ
-noRow = replicate 256 0
 
 -- the state x is made of these rows and tables, with no column drawn on t tracks
 pub record Laid (top bottom firsts lasts : List ℕ) (t : ℕ) (x : State) : Type 0 where

@@ -273,7 +273,7 @@ pub fn place(
         (now (upper .entry)) (now (lower .entry)) (now (first .entry)) (now (last .entry)) strands free low high many extended) (stateOf columns tracks drawn
         (now (upper .exit)) (now (lower .exit)) (now (first .exit)) (now (last .exit)) strands free low high many extended)) ⌝ }
 {
-    let n = rows::limit(columns);
+    let n = grid::columns_held(columns);
     let mut top = rows::copied(upper);
     let mut bottom = rows::copied(lower);
     let number = placing::place_net(

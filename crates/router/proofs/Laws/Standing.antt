@@ -3,23 +3,22 @@ use Prim.Native.Nat.{ℕ, _+_, _-_, _≤_, _<_}
 use mathlib.Core.Path.{_≡_, refl, sym, ap, _∙_}
 use mathlib.Core.Bool.{Bool, true, false, _||_}
 use mathlib.Core.List.{List, _++_}
-use mathlib.Core.Logic.{⊎-elim}
 use native.Mathlib.Omega.{arith}
 use lib.Dec.{ltb}
 use lib.ListN.{length, take, getD, replicate, List·getD-append, List·getD-eq-default}
-use lib.Seq.{getD-append-add}
 use Rattle.grid.specs.declared.Family.the-variants.{TwoPin}
 use Rattle.grid.specs.Channel.{density, family, rowsRefused}
 use Rattle.grid.specs.Nets.{firstColumn, lastColumn, table}
+use Rattle.grid.specs.Places.{padded}
 use Rattle.grid.proofs.Tests.{not-both, below-or, or-false, ltb-false, le-ltb}
-use Rattle.grid.proofs.Counting.{zeros}
+use Rattle.grid.proofs.Places.{padded-at}
 use Rattle.grid.proofs.Rows.{RowsFit, rows-fit}
 use Rattle.sweep.specs.Drawing.{width}
 use Rattle.sweep.proofs.Drawing.Past.{width-least}
 use Rattle.sweep.proofs.Gaps.Held.{Enough, two-enough}
 use Rattle.sweep.proofs.Solved.{width-most}
 use Rattle.router.specs.Working.{Reads, Ready, FitsFrom, Marked, AtGap, noNets}
-use Rattle.router.specs.State.{padded, Standing, Begun}
+use Rattle.router.specs.State.{Standing, Begun}
 use Rattle.router.proofs.Laws.Calls.{ready}
 use Rattle.router.proofs.Laws.Begin.{begins}
 use Rattle.router.proofs.Laws.Past.{fits-anywhere}
@@ -36,17 +35,7 @@ pub one-over : (m n x y : ℕ) → (ltb m x || ltb n y) ≡ true → x ≤ m →
 one-over m n x y e p q =
     not-both e (ap (λ (z : Bool). z || ltb n y) (le-ltb m x p) ∙ le-ltb n y q)
 
--- a row in 256 places reads as the row itself, which has nothing past its end
-pub padded-at : (l : List ℕ) (c : ℕ) → getD (padded l) c 0 ≡ getD l c 0
-unfolding padded
-padded-at l c =
-    let z : List ℕ = replicate (256 - length l) 0 in
-    ⊎-elim (λ (p : c < length l). List·getD-append l z 0 c p)
-    (λ (p : length l ≤ c).
-    let e : c ≡ length l + (c - length l) = omega arith in
-    ap (λ (k : ℕ). getD (l ++ z) k 0) e ∙ getD-append-add l z (c - length l) 0 ∙ zeros (256 - length l) (c - length l) ∙ sym (List·getD-eq-default l 0 p))
-    (below-or c (length l))
-
+-- a row in 256 places reads as the row itself
 padded-reads : (row l : List ℕ) → row ≡ padded l → Reads row l
 padded-reads row l e c = ap (λ (z : List ℕ). getD z c 0) e ∙ padded-at l c
 

@@ -1,5 +1,6 @@
 -- `place` meets its contract: by the laws of `Late`, one for each way out of it. Assumes nothing.
-use Rattle.stepwise.proofs.Late.{part-length, Copied, above-room, below-room, above-part, below-part}
+use Rattle.grid.proofs.Places.{part-length}
+use Rattle.stepwise.proofs.Late.{Copied, above-room, below-room, above-part, below-part}
 use Rattle.stepwise.proofs.Late.{place-refused, place-dense, place-done}
 use borrow.Author.Needs.{needs}
 use Rattle.stepwise.proofs.place.Statement.{statement}
@@ -12,14 +13,14 @@ begun c = c .before .before .before .before .before .before .before .before
 -- what is known of the copies once the net is placed in them
 facts : (c : tie.After-place-net)
     → Copied (begun c .args .columns) (begun c .args .drawn) (begun c .args .net) (begun c .args .column1) (begun c .args .side1)
-    (begun c .args .column2) (begun c .args .side2) (c .before .before .before .before .before .before .before .limit .result) (c .place-net .result)
+    (begun c .args .column2) (begun c .args .side2) (c .before .before .before .before .before .before .before .columns-held .result) (c .place-net .result)
     (begun c .args .upper .now) (begun c .args .lower .now) (c .before .before .before .before .before .copied .result)
     (c .before .before .before .copied2 .result) (c .place-net .last .0) (c .place-net .last .1 .0)
 facts c =
     let x = c .before .before .before .before .before .copied .ensures in
     let y = c .before .before .before .copied2 .ensures in
     record {
-      limit = c .before .before .before .before .before .before .before .limit .ensures;
+      limit = c .before .before .before .before .before .before .before .columns-held .ensures;
       sized = (x .0, y .0);
       above = x .1;
       below = y .1;
@@ -28,8 +29,8 @@ facts c =
       bottom = c .place-net .ensures .1 .1;
     }
 
-limit-requires : tie.Need-limit-requires
-limit-requires c κs = search needs
+columns-held-requires : tie.Need-columns-held-requires
+columns-held-requires c κs = search needs
 
 copied-requires : tie.Need-copied-requires
 copied-requires c κs = search needs
@@ -43,7 +44,7 @@ array-borrow-prefix-top c = search needs
 slice-aggregate-place-net : tie.Need-slice-aggregate-place-net
 slice-aggregate-place-net c =
     let x = c .before .before .before .copied in
-    let l = c .before .before .before .before .before .limit in
+    let l = c .before .before .before .before .before .columns-held in
     part-length _ (l .result) (x .result) (l .ensures) (x .ensures .0)
 
 array-borrow-prefix-bottom : tie.Need-array-borrow-prefix-bottom
@@ -52,7 +53,7 @@ array-borrow-prefix-bottom c = search needs
 slice-aggregate-place-net-2 : tie.Need-slice-aggregate-place-net-2
 slice-aggregate-place-net-2 c =
     let x = c .before .before .copied2 in
-    let l = c .before .before .before .before .before .before .limit in
+    let l = c .before .before .before .before .before .before .columns-held in
     part-length _ (l .result) (x .result) (l .ensures) (x .ensures .0)
 
 place-net-requires : tie.Need-place-net-requires
@@ -112,7 +113,7 @@ pub place-spec : {M : Type 1} → statement M
 place-spec =
     tie.close
     (tie.spec
-    limit-requires
+    columns-held-requires
     copied-requires
     copied-requires-2
     array-borrow-prefix-top

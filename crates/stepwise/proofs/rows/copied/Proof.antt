@@ -1,5 +1,6 @@
 -- `copied` meets its contract. The invariant: i numbers are copied. Assumes nothing.
-use Rattle.stepwise.proofs.Begin.{rowTo, no-row-length, row-none, row-next, row-copied}
+use Rattle.grid.proofs.Places.{no-row-length}
+use Rattle.stepwise.proofs.Begin.{rowTo, row-none, row-next, row-copied}
 use lib.ListN.{length, length-set}
 use mathlib.Core.Path.{_≡_, ap, _∙_}
 use Prim.Native.Nat.{_-_, _≤_}
