@@ -97,7 +97,7 @@ module _ (own : ℕ) (row : List ℕ) (net column1 side1 column2 side2 : ℕ) wh
 
   module _ (drawn : ℕ) (one : FreeOn own row drawn column1 side1) (two : FreeOn own row drawn column2 side2) (d : Differ column1 side1 column2 side2) where
     -- the second terminal is free beside the first pin
-    still-free : FreeOn own mid drawn column2 side2
+    pub still-free : FreeOn own mid drawn column2 side2
     still-free e₂ =
         let f = two e₂ in
         record {

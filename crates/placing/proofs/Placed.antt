@@ -66,7 +66,7 @@ module _ (top bottom : List ℕ) (drawn net column1 side1 column2 side2 : ℕ) w
 
   module _ (a : Accepted top bottom drawn net column1 side1 column2 side2) where
     -- two pins more of the net, none of another
-    more-pins : (v : ℕ) → v ≢ 0 → pins top′ bottom′ v ≡ pins top bottom v + (bit (eqb net v) + bit (eqb net v))
+    pub more-pins : (v : ℕ) → v ≢ 0 → pins top′ bottom′ v ≡ pins top bottom v + (bit (eqb net v) + bit (eqb net v))
     unfolding pins
     more-pins v n =
         omega (
