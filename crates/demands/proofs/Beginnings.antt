@@ -16,8 +16,12 @@ use Rattle.router.specs.Answers as routing
 use Rattle.router.proofs.Applied.{layout-length, width-least}
 use Rattle.router.proofs.Answered.{answer-number, written-drawn}
 use Rattle.demands.specs.Beginnings.{TwoPinChannel, BeginAlike, firstColumns, DrawnAlike, SameBeginning}
-use Rattle.demands.proofs.Families.{family-of}
+use Rattle.demands.proofs.Families.{of-two, family-of}
 use Rattle.demands.proofs.Tracks.{rows-accepted}
+
+-- accepted rows of two-pin nets are such a channel
+pub two-pin-channel : (top bottom : List ℕ) → rowsRefused top bottom 256 ≡ 0 → family top bottom ≡ TwoPin → TwoPinChannel top bottom
+two-pin-channel top bottom ok two = record { accepted = rows-accepted top bottom .0 ok; pairs = of-two top bottom (rows-fit top bottom ok) two }
 
 -- ONE CHANNEL
 module _ (top bottom : List ℕ) (p : TwoPinChannel top bottom) where

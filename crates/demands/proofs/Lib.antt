@@ -1,7 +1,8 @@
--- The demands are met: `Table`, `Lines` and `Drawings` relate the libraries' numbers to the lines of the table, `Families` the families of channels to
--- their kinds in words; the others hold the theorems, named as in specs/.
+-- The demands are met: `Table`, `Lines`, `NewNets` and `Drawings` relate the libraries' numbers to the lines of the table, `Families` the families of
+-- channels to their kinds in words; the others hold the theorems, named as in specs/.
 pub mod Table
 pub mod Lines
+pub mod NewNets
 pub mod Drawings
 pub mod Refusals
 pub mod Slices
@@ -13,3 +14,4 @@ pub mod Spelling
 pub mod EmptyColumns
 pub mod Beginnings
 pub mod Steps
+pub mod Boards

@@ -89,16 +89,36 @@ Shut top bottom drawn column side =
     ⊎ ((1 < side)
     ⊎ (((side ≡ 0) × (getD top (column - 1) 0 ≢ 0)) ⊎ ((side ≡ 1) × (getD bottom (column - 1) 0 ≢ 0)))))
 
--- LATE NET: "(21: number in use; 22: a terminal not free or not allowed; 23: density over the tracks; checked in that order after 6.)" The terminals "are
--- distinct"
-abbrev pub ofLateNet : (top bottom : List ℕ) (t drawn net column1 side1 column2 side2 : ℕ) → Table
-ofLateNet top bottom t drawn net column1 side1 column2 side2 =
+-- NEW NET of two pins: "(21: number in use; 22: a terminal not free or not allowed; … checked in that order after 6.)" The terminals "are distinct"
+abbrev pub ofNewNet : (top bottom : List ℕ) (drawn net column1 side1 column2 side2 : ℕ) → Table → Table
+ofNewNet top bottom drawn net column1 side1 column2 side2 rest =
     -- "A net number of 0 or over 256 is a 6"
     line 6 ((net ≡ 0) ⊎ (256 < net))
     (line 21 (pins top bottom net ≢ 0)
     (line 22 (Shut top bottom drawn column1 side1 ⊎ (Shut top bottom drawn column2 side2 ⊎ ((column1 ≡ column2) × (side1 ≡ side2))))
+    rest))
+
+-- LATE NET: "23: density over the tracks"
+abbrev pub ofLateNet : (top bottom : List ℕ) (t drawn net column1 side1 column2 side2 : ℕ) → Table
+ofLateNet top bottom t drawn net column1 side1 column2 side2 =
+    ofNewNet top bottom drawn net column1 side1 column2 side2
     (line 23 (t < density (placedTop top net column1 side1 column2 side2) (placedBottom bottom net column1 side1 column2 side2))
-    end)))
+    end)
+
+-- BOARD: document 02, Job 11, "More than 256 columns is a 5"
+abbrev pub ofBoard : (columns : ℕ) → Table
+ofBoard columns = line 5 (256 < columns) end
+
+-- ADDED NET: "An added net follows Job 10 with nothing drawn and no track limit"
+abbrev pub ofAddedNet : (top bottom : List ℕ) (net column1 side1 column2 side2 : ℕ) → Table
+ofAddedNet top bottom net column1 side1 column2 side2 = ofNewNet top bottom 0 net column1 side1 column2 side2 end
+
+-- DROPPED NET: "(24: dropping a net that is not there; checked after 6.)"
+abbrev pub ofDroppedNet : (top bottom : List ℕ) (net : ℕ) → Table
+ofDroppedNet top bottom net =
+    line 6 ((net ≡ 0) ⊎ (256 < net))
+    (line 24 (pins top bottom net ≡ 0)
+    end)
 
 -- NET TABLE: "net table under 256 records"
 abbrev pub ofNetTable : (lent : ℕ) → Table → Table

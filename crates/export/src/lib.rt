@@ -14,6 +14,7 @@ ghost use mathlib.Core.List.{List, [], _++_};
 ghost use Prim.Native.Nat.{ℕ, _+_, _*_, _/_, _≤_, _<_};
 ghost use lib.ListN.{length, take, drop};
 ghost use Rattle.grid.specs.Answers.{densityCount};
+ghost use Rattle.grid.specs.Channel.{density as channelDensity};
 ghost use Rattle.grid.specs.View.{columnPart};
 ghost use Rattle.router.specs.Answers.{need, answer, written};
 ghost use Rattle.checker.specs.Check.{checked};
@@ -25,6 +26,8 @@ ghost use Rattle.grid.specs.Refusals.{ifAccepted};
 ghost use Rattle.record.specs.Record.{laid};
 ghost use Rattle.listing.specs.Listing.{listed, refused as listRefused, textOf};
 ghost use Rattle.stepwise.specs.Sweep.{stateOf, Stands, started, Starts, Steps, PlacesLate, KeptIfRefused};
+ghost use Rattle.board.specs.Changes.{Channel, Add, Drop};
+ghost use Rattle.board.specs.Board.{boardWith, boardOf, StandsFor, startRefused, startChannel, Makes, gapCount};
 ghost use Rattle.canonical.specs.Canonical.{answer as canonicalAnswer, bytesAfter};
 
 #[repr(C)]
@@ -396,4 +399,80 @@ pub extern "C" fn gaxwethi_sweep_place(
         column2,
         side2,
     )
+}
+
+// Begins a board of n columns. The board, which the caller holds, is lent to each call on it: a number, and arrays that pass as pointers.
+#[no_mangle]
+pub extern "C" fn gaxwethi_board_start(
+    n: usize,
+    columns: &mut usize,
+    top: &mut [u16; 256],
+    bottom: &mut [u16; 256],
+    counts: &mut [u16; 256],
+) -> u16
+    ensures number { λ r. ⌜ r ≡ startRefused n ⌝ }
+    ensures board { λ r. ⌜ boardWith (now (columns .exit)) (now (top .exit)) (now (bottom .exit)) (now (counts .exit)) ≡ boardOf (startChannel n) ⌝ }
+{
+    board::start(n, columns, top, bottom, counts)
+}
+
+// Adds a net of two pins to a board.
+#[no_mangle]
+pub extern "C" fn gaxwethi_board_add(
+    columns: usize,
+    top: &mut [u16; 256],
+    bottom: &mut [u16; 256],
+    counts: &mut [u16; 256],
+    net: u16,
+    column1: usize,
+    side1: u16,
+    column2: usize,
+    side2: u16,
+) -> u16
+    ensures { λ r. ⌜ Makes (Add net column1 side1 column2 side2) r (boardWith columns (now (top .entry)) (now (bottom .entry)) (now (counts .entry)))
+        (boardWith columns (now (top .exit)) (now (bottom .exit)) (now (counts .exit))) ⌝ }
+{
+    board::add(
+        columns,
+        top,
+        bottom,
+        counts,
+        net,
+        column1,
+        side1,
+        column2,
+        side2,
+    )
+}
+
+// Drops a net from a board.
+#[no_mangle]
+pub extern "C" fn gaxwethi_board_drop(
+    columns: usize,
+    top: &mut [u16; 256],
+    bottom: &mut [u16; 256],
+    counts: &mut [u16; 256],
+    net: u16,
+) -> u16
+    ensures { λ r. ⌜ Makes (Drop net) r (boardWith columns (now (top .entry)) (now (bottom .entry)) (now (counts .entry)))
+        (boardWith columns (now (top .exit)) (now (bottom .exit)) (now (counts .exit))) ⌝ }
+{
+    board::drop(columns, top, bottom, counts, net)
+}
+
+// The density of the channel on a board.
+#[no_mangle]
+pub extern "C" fn gaxwethi_board_density(columns: usize, counts: &[u16; 256]) -> u16
+    ensures { λ r. ⌜ ((ch : Channel) (top bottom : List ℕ) → StandsFor ch (boardWith columns top bottom (now (counts .entry)))
+        → r ≡ channelDensity (ch .top) (ch .bottom)) ⌝ }
+{
+    board::density(columns, counts)
+}
+
+// The count at a gap of the channel on a board.
+#[no_mangle]
+pub extern "C" fn gaxwethi_board_count(columns: usize, counts: &[u16; 256], gap: usize) -> u16
+    ensures { λ r. ⌜ ((ch : Channel) (top bottom : List ℕ) → StandsFor ch (boardWith columns top bottom (now (counts .entry))) → r ≡ gapCount ch gap) ⌝ }
+{
+    board::count(columns, counts, gap)
 }
