@@ -21,7 +21,7 @@ use Rattle.placing.proofs.Pins.{both-length}
 use Rattle.placing.proofs.Taken.{fit-accepted, two-pin}
 use Rattle.placing.proofs.Placed.{placed-pins, placed-others, placed-accepted, placed-pairs}
 use Rattle.board.specs.Changes.{Channel, emptyChannel, Change, Add, Drop, dropRefused, changeRefused, changed, afterChange, afterChanges}
-use Rattle.board.specs.Board.{Board, StandsFor, startRefused, startChannel, LeadsTo, stays, goes}
+use Rattle.board.specs.Board.{Board, StandsFor, boardRefused, startChannel, LeadsTo, stays, goes}
 use Rattle.board.proofs.Without.{without-length, pins-others, pins-gone}
 use Rattle.board.proofs.With.{without-top, without-bottom}
 use Rattle.board.proofs.Stored.{empty-pins}
@@ -39,16 +39,16 @@ two-pins-by ch fit short two = record { accepted = fit-accepted (ch .top) (ch .b
 
 module _ (n : ℕ) where
   -- at most 256 columns
-  start-most : ifAccepted (startRefused n) n 0 ≤ 256
+  start-most : ifAccepted (boardRefused n) n 0 ≤ 256
   start-most = go (ltb 256 n) refl
     where
       go : (q : Bool) → ltb 256 n ≡ q → ifAccepted (pick q 5 0) n 0 ≤ 256
       go true e = omega arith
       go false e = ltb-false 256 n e
 
-  pub start-columns : length (startChannel n .top) ≡ ifAccepted (startRefused n) n 0
+  pub start-columns : length (startChannel n .top) ≡ ifAccepted (boardRefused n) n 0
   unfolding emptyChannel
-  start-columns = length-replicate {A = ℕ} (ifAccepted (startRefused n) n 0) 0
+  start-columns = length-replicate {A = ℕ} (ifAccepted (boardRefused n) n 0) 0
 
   pub start-same : length (startChannel n .top) ≡ length (startChannel n .bottom)
   unfolding emptyChannel
@@ -59,7 +59,7 @@ module _ (n : ℕ) where
 
   pub start-pins : (v : ℕ) → v ≢ 0 → pins (startChannel n .top) (startChannel n .bottom) v ≡ 0
   unfolding emptyChannel
-  start-pins = empty-pins (ifAccepted (startRefused n) n 0)
+  start-pins = empty-pins (ifAccepted (boardRefused n) n 0)
 
   pub start-two-pins : TwoPins (startChannel n)
   start-two-pins =
@@ -95,7 +95,7 @@ changed-length ch (Add net column1 side1 column2 side2) =
     (both-length 0 (ch .top) net column1 side1 column2 side2, both-length 1 (ch .bottom) net column1 side1 column2 side2)
 changed-length ch (Drop net) = (without-length net (ch .top), without-length net (ch .bottom))
 
-pub change-length : (ch : Channel) (change : Change)
+change-length : (ch : Channel) (change : Change)
     → (length (afterChange ch change .top) ≡ length (ch .top)) × (length (afterChange ch change .bottom) ≡ length (ch .bottom))
 change-length ch change =
     either-way ch change (λ x. (length (x .top) ≡ length (ch .top)) × (length (x .bottom) ≡ length (ch .bottom))) (refl, refl) (λ e. changed-length ch change)
@@ -232,7 +232,7 @@ module _ (ch : Channel) (t : TwoPins ch) where
   changed-two-pins (Drop net) = dropped-two-pins net
 
 -- after any change it is one
-pub change-two-pins : (ch : Channel) (change : Change) → TwoPins ch → TwoPins (afterChange ch change)
+change-two-pins : (ch : Channel) (change : Change) → TwoPins ch → TwoPins (afterChange ch change)
 change-two-pins ch change t = either-way ch change TwoPins t (changed-two-pins ch t change)
 
 -- AFTER ANY LIST OF CHANGES

@@ -77,14 +77,14 @@ module _ (first : ℕ) (more : Bool) (old : List ℕ) where
 -- THE LARGEST COUNT
 
 -- of no gap
-pub largest-none : (counts : List ℕ) → largestIn counts 0 ≡ 0
+pub largest-of-none : (counts : List ℕ) → largestIn counts 0 ≡ 0
 unfolding largestIn
-largest-none counts = refl
+largest-of-none counts = refl
 
 -- a gap more
-pub largest-next : (counts : List ℕ) (k : ℕ) → max (largestIn counts k) (getD counts (k + 1) 0) ≡ largestIn counts (k + 1)
+pub largest-of-next : (counts : List ℕ) (k : ℕ) → max (largestIn counts k) (getD counts (k + 1) 0) ≡ largestIn counts (k + 1)
 unfolding largestIn
-largest-next counts k = rw add-one
+largest-of-next counts k = rw add-one
 
 -- THE FIRST AND THE LAST COLUMN OF A NET
 
@@ -95,9 +95,9 @@ module _ (top bottom : List ℕ) (net : ℕ) where
   first-none = refl
 
   -- a column more without a pin of the net
-  pub first-past : (c : ℕ) → firstTo top bottom net c ≡ 0 → isPinned top bottom net c ≡ false → firstTo top bottom net (c + 1) ≡ 0
+  pub first-not-yet : (c : ℕ) → firstTo top bottom net c ≡ 0 → isPinned top bottom net c ≡ false → firstTo top bottom net (c + 1) ≡ 0
   unfolding firstTo
-  first-past c e p =
+  first-not-yet c e p =
       ap (firstTo top bottom net) (add-one c)
       ∙ ap (λ (q : Bool). pick (q && eqb (firstTo top bottom net c) 0) (suc c) (firstTo top bottom net c)) p ∙ e
 
@@ -120,9 +120,9 @@ module _ (top bottom : List ℕ) (net : ℕ) where
       ∙ first-kept (suc c) (length top - suc c) (λ z. let u : ⊥ = omega arith in u) ∙ found)
 
   -- the last of no columns
-  pub last-none : lastTo top bottom net 0 ≡ 0
+  pub last-not-there : lastTo top bottom net 0 ≡ 0
   unfolding lastTo
-  last-none = refl
+  last-not-there = refl
 
   -- of the columns 1 to c it is c or one before, by the pins of column c
   pub last-by : (c : ℕ) (q : Bool) → 0 < c → isPinned top bottom net (c - 1) ≡ q → lastTo top bottom net c ≡ pick q c (lastTo top bottom net (c - 1))
@@ -145,9 +145,9 @@ clearedTo net (suc i) [] = []
 clearedTo net (suc i) (x ∷ row) = restOf net x ∷ clearedTo net i row
 
 -- no place is cleared
-pub cleared-none : (net : ℕ) (row : List ℕ) → clearedTo net 0 row ≡ row
+pub clearing-none : (net : ℕ) (row : List ℕ) → clearedTo net 0 row ≡ row
 unfolding clearedTo
-cleared-none net row = refl
+clearing-none net row = refl
 
 -- place i is cleared next
 clear-at : (net i : ℕ) (row : List ℕ) → i < length row → set (clearedTo net i row) i (restOf net (getD (clearedTo net i row) i 0)) ≡ clearedTo net (suc i) row
@@ -157,14 +157,14 @@ clear-at net zero (x ∷ row) h = refl
 clear-at net (suc i) (x ∷ row) h = ap (λ (r : List ℕ). restOf net x ∷ r) (clear-at net i row (omega arith))
 
 -- so in the loop's variables
-pub cleared-next : (net i x : ℕ) (row now : List ℕ) → i < length row → now ≡ clearedTo net i row → x ≡ restOf net (getD now i 0)
+pub clearing-next : (net i x : ℕ) (row now : List ℕ) → i < length row → now ≡ clearedTo net i row → x ≡ restOf net (getD now i 0)
     → set now i x ≡ clearedTo net (i + 1) row
-cleared-next net i x row now h e f =
+clearing-next net i x row now h e f =
     ap (set now i) f ∙ ap (λ (l : List ℕ). set l i (restOf net (getD l i 0))) e ∙ clear-at net i row h
     ∙ ap (λ (k : ℕ). clearedTo net k row) (sym (add-one i))
 
 -- all places
-pub cleared-all : (net : ℕ) (row : List ℕ) → clearedTo net (length row) row ≡ withoutNet net row
+pub clearing-all : (net : ℕ) (row : List ℕ) → clearedTo net (length row) row ≡ withoutNet net row
 unfolding clearedTo withoutNet
-cleared-all net [] = refl
-cleared-all net (x ∷ row) = ap (λ (r : List ℕ). restOf net x ∷ r) (cleared-all net row)
+clearing-all net [] = refl
+clearing-all net (x ∷ row) = ap (λ (r : List ℕ). restOf net x ∷ r) (clearing-all net row)

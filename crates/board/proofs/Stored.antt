@@ -16,7 +16,7 @@ use Rattle.grid.proofs.Rows.{left-right, open-sides}
 use Rattle.grid.proofs.Tables.{length-from, from-at}
 use Rattle.grid.proofs.OpenNets.{none-open}
 use Rattle.board.specs.Changes.{Channel, emptyChannel}
-use Rattle.board.specs.Board.{Board, boardWith, countsOf, boardOf, StandsFor, startRefused, startChannel, gapCount}
+use Rattle.board.specs.Board.{Board, boardWith, countsOf, boardOf, StandsFor, boardRefused, startChannel, gapCount}
 use Rattle.board.specs.Working.{largestIn}
 
 -- THE COUNTS OF A CHANNEL
@@ -58,7 +58,7 @@ unfolding right times
 right-past top bottom c v p q = rw (drop-of-length-le top {i = c} p, drop-of-length-le bottom {i = c} q)
 
 -- so no net is open there
-pub open-past : (top bottom : List ℕ) (c : ℕ) → length top ≤ c → length bottom ≤ c → openAt top bottom c ≡ 0
+open-past : (top bottom : List ℕ) (c : ℕ) → length top ≤ c → length bottom ≤ c → openAt top bottom c ≡ 0
 open-past top bottom c p q = open-none top bottom c (λ v n a b. let e = right-past top bottom c v p q in omega arith)
 
 -- THE COUNT AT A GAP
@@ -137,7 +137,7 @@ unfolding pins
 empty-pins n v z = let e = none-times v (replicate n 0) (λ j b y. z (sym y ∙ zeros n j)) in omega arith
 
 -- its rows are zeros
-pub empty-row : (n : ℕ) → n ≤ 256 → noRow ≡ padded (replicate n 0)
+empty-row : (n : ℕ) → n ≤ 256 → noRow ≡ padded (replicate n 0)
 unfolding noRow padded
 empty-row n h =
     let e : n + (256 - n) ≡ 256 = omega arith in
@@ -145,7 +145,7 @@ empty-row n h =
     ∙ replicate-append-replicate n (256 - n) 0 ∙ ap (λ (k : ℕ). replicate k 0) e)
 
 -- and so are its counts
-pub empty-counts : (n : ℕ) → noRow ≡ countsOf (emptyChannel n)
+empty-counts : (n : ℕ) → noRow ≡ countsOf (emptyChannel n)
 unfolding noRow emptyChannel
 empty-counts n =
     counts-by (record { top = replicate n 0; bottom = replicate n 0 }) (replicate 256 0) (length-replicate {A = ℕ} 256 0)
@@ -153,7 +153,7 @@ empty-counts n =
     (λ v z a b. let s = left-right (replicate n 0) (replicate n 0) v g in let e = empty-pins n v z in omega arith)))
 
 -- zeros in all places stand for it
-pub empty-board : (n : ℕ) (top bottom counts : List ℕ) → n ≤ 256 → top ≡ noRow → bottom ≡ noRow → counts ≡ noRow
+empty-board : (n : ℕ) (top bottom counts : List ℕ) → n ≤ 256 → top ≡ noRow → bottom ≡ noRow → counts ≡ noRow
     → boardWith n top bottom counts ≡ boardOf (emptyChannel n)
 unfolding emptyChannel
 empty-board n top bottom counts h t b k =
@@ -161,8 +161,8 @@ empty-board n top bottom counts h t b k =
 
 -- so begins a board of n columns, and one without columns where n is refused
 module _ (n : ℕ) (top bottom counts : List ℕ) (t : top ≡ noRow) (b : bottom ≡ noRow) (k : counts ≡ noRow) where
-  pub start-made : n ≤ 256 → (0 ≡ startRefused n) × (boardWith n top bottom counts ≡ boardOf (startChannel n))
+  pub start-made : n ≤ 256 → (0 ≡ boardRefused n) × (boardWith n top bottom counts ≡ boardOf (startChannel n))
   start-made h = rw (le-ltb 256 n h) (refl, empty-board n top bottom counts h t b k)
 
-  pub start-refused : 256 < n → (5 ≡ startRefused n) × (boardWith 0 top bottom counts ≡ boardOf (startChannel n))
-  start-refused h = rw (lt-ltb 256 n h) (refl, empty-board 0 top bottom counts (omega arith) t b k)
+  pub start-too-wide : 256 < n → (5 ≡ boardRefused n) × (boardWith 0 top bottom counts ≡ boardOf (startChannel n))
+  start-too-wide h = rw (lt-ltb 256 n h) (refl, empty-board 0 top bottom counts (omega arith) t b k)

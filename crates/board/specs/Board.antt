@@ -39,12 +39,12 @@ pub record StandsFor (ch : Channel) (x : Board) : Type 0 where
   pub board : x ≡ boardOf ch
 
 -- START: "More than 256 columns is a 5"
-abbrev pub startRefused : (columns : ℕ) → ℕ
-startRefused columns = pick (ltb 256 columns) 5 0
+abbrev pub boardRefused : (columns : ℕ) → ℕ
+boardRefused columns = pick (ltb 256 columns) 5 0
 
 -- the channel then: "starting empty"; a refused start leaves one without columns
 abbrev pub startChannel : (columns : ℕ) → Channel
-startChannel columns = emptyChannel (ifAccepted (startRefused columns) columns 0)
+startChannel columns = emptyChannel (ifAccepted (boardRefused columns) columns 0)
 
 -- A CHANGE of a channel: r is the number of its refusal, and y the board then
 pub record Answers (ch : Channel) (change : Change) (r : ℕ) (y : Board) : Type 0 where

@@ -10,7 +10,7 @@ ghost use mathlib.Core.List.{List};
 ghost use Prim.Native.Nat.{ℕ};
 ghost use Rattle.grid.specs.Channel.{density as densityOf};
 ghost use Rattle.board.specs.Changes.{Channel, Add, Drop};
-ghost use Rattle.board.specs.Board.{boardWith, boardOf, StandsFor, startRefused, startChannel, Makes, gapCount};
+ghost use Rattle.board.specs.Board.{boardWith, boardOf, StandsFor, boardRefused, startChannel, Makes, gapCount};
 
 // Begins a board of n columns without pins. One of over 256 is refused, and the board has no columns then.
 pub fn start(
@@ -20,7 +20,7 @@ pub fn start(
     bottom: &mut [u16; 256],
     counts: &mut [u16; 256],
 ) -> u16
-    ensures number { λ r. ⌜ r ≡ startRefused n ⌝ }
+    ensures number { λ r. ⌜ r ≡ boardRefused n ⌝ }
     ensures board { λ r. ⌜ boardWith (now (columns .exit)) (now (top .exit)) (now (bottom .exit)) (now (counts .exit)) ≡ boardOf (startChannel n) ⌝ }
 {
     *top = grid::no_row();

@@ -7,13 +7,13 @@ use lib.ListN.{length, getD}
 use Rattle.grid.specs.Channel.{pins, openAt}
 use Rattle.grid.specs.Refusals.{ifAccepted}
 use Rattle.board.specs.Changes.{Channel, Change, Add, Drop, changeRefused, afterChange, afterChanges}
-use Rattle.board.specs.Board.{Board, boardOf, StandsFor, startRefused, startChannel, gapCount, LeadsTo}
+use Rattle.board.specs.Board.{Board, boardOf, StandsFor, boardRefused, startChannel, gapCount, LeadsTo}
 use Rattle.demands.specs.Table.{First, ofBoard, ofAddedNet, ofDroppedNet}
 use Rattle.demands.specs.Beginnings.{TwoPinChannel}
 
 -- THE FIRST NUMBER THAT APPLIES, call by call
 pub record BoardRefuses : Type 0 where
-  pub start : (columns : ℕ) → First (ofBoard columns) (startRefused columns)
+  pub start : (columns : ℕ) → First (ofBoard columns) (boardRefused columns)
   pub add : (ch : Channel) → length (ch .top) ≡ length (ch .bottom) → (net column1 side1 column2 side2 : ℕ)
       → First (ofAddedNet (ch .top) (ch .bottom) net column1 side1 column2 side2) (changeRefused ch (Add net column1 side1 column2 side2))
   pub drop : (ch : Channel) (net : ℕ) → First (ofDroppedNet (ch .top) (ch .bottom) net) (changeRefused ch (Drop net))
@@ -52,7 +52,7 @@ module _ (n : ℕ) where
     -- "starting empty"
     pub empty : (v : ℕ) → v ≢ 0 → pins (startChannel n .top) (startChannel n .bottom) v ≡ 0
     -- "a fixed number of columns"
-    pub columns : (changes : List Change) → length (channelAfter changes .top) ≡ ifAccepted (startRefused n) n 0
+    pub columns : (changes : List Change) → length (channelAfter changes .top) ≡ ifAccepted (boardRefused n) n 0
     -- a channel of two-pin nets that the router takes
     pub channel : (changes : List Change) → TwoPinChannel (channelAfter changes .top) (channelAfter changes .bottom)
     pub takes : (changes : List Change) → TakesChanges (channelAfter changes)

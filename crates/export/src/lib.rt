@@ -27,7 +27,7 @@ ghost use Rattle.record.specs.Record.{laid};
 ghost use Rattle.listing.specs.Listing.{listed, refused as listRefused, textOf};
 ghost use Rattle.stepwise.specs.Sweep.{stateOf, Stands, started, Starts, Steps, PlacesLate, KeptIfRefused};
 ghost use Rattle.board.specs.Changes.{Channel, Add, Drop};
-ghost use Rattle.board.specs.Board.{boardWith, boardOf, StandsFor, startRefused, startChannel, Makes, gapCount};
+ghost use Rattle.board.specs.Board.{boardWith, boardOf, StandsFor, boardRefused, startChannel, Makes, gapCount};
 ghost use Rattle.canonical.specs.Canonical.{answer as canonicalAnswer, bytesAfter};
 
 #[repr(C)]
@@ -410,7 +410,7 @@ pub extern "C" fn gaxwethi_board_start(
     bottom: &mut [u16; 256],
     counts: &mut [u16; 256],
 ) -> u16
-    ensures number { λ r. ⌜ r ≡ startRefused n ⌝ }
+    ensures number { λ r. ⌜ r ≡ boardRefused n ⌝ }
     ensures board { λ r. ⌜ boardWith (now (columns .exit)) (now (top .exit)) (now (bottom .exit)) (now (counts .exit)) ≡ boardOf (startChannel n) ⌝ }
 {
     board::start(n, columns, top, bottom, counts)

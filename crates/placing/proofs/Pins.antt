@@ -5,12 +5,12 @@ use mathlib.Core.Logic.{_≢_}
 use mathlib.Core.Bool.{Bool, true, false}
 use mathlib.Core.List.{List, [], _∷_}
 use native.Mathlib.Omega.{arith}
-use lib.Dec.{eqb}
-use lib.ListN.{length, getD, set, take, drop, length-set}
+use lib.Dec.{eqb, leb, leb·suc-suc}
+use lib.ListN.{length, getD, set, take, length-set}
 use lib.Seq.{getD-set-other, take-set-le}
 use Rattle.grid.specs.Channel.{pick, bit, times}
 use Rattle.grid.specs.Refusals.{ifAccepted}
-use Rattle.grid.proofs.Tests.{Same, same, sameBy, eqb-diff}
+use Rattle.grid.proofs.Tests.{Same, same, sameBy, eqb-diff, le-leb, lt-leb}
 use Rattle.placing.specs.Placing.{withPin, withPins}
 use Rattle.placing.proofs.Terminals.{FreeOn, pin-room, Differ}
 
@@ -23,28 +23,26 @@ times-set v [] i x h = absurd (omega arith)
 times-set v (y ∷ ys) zero x h = omega arith
 times-set v (y ∷ ys) (suc i) x h = omega (arith, times-set v ys i x (omega arith))
 
--- at an empty place, no net has fewer pins left of a gap
-left-set : (v : ℕ) (l : List ℕ) (i x c : ℕ) → v ≢ 0 → getD l i 0 ≡ 0 → times v (take c l) ≤ times v (take c (set l i x))
+-- at an empty place: a pin more left of each gap after it
+left-set : (v : ℕ) (l : List ℕ) (i x c : ℕ) → v ≢ 0 → i < length l → getD l i 0 ≡ 0
+    → times v (take c (set l i x)) ≡ times v (take c l) + pick (leb (suc i) c) (bit (eqb x v)) 0
 unfolding times
-left-set v [] i x c n e = omega arith
-left-set v (y ∷ ys) i x zero n e = omega arith
-left-set v (y ∷ ys) zero x (suc c) n e = omega (arith, eqb-diff y v (λ z. n (sym z ∙ e)))
-left-set v (y ∷ ys) (suc i) x (suc c) n e = omega (arith, left-set v ys i x c n e)
-
--- nor right of it
-right-set : (v : ℕ) (l : List ℕ) (i x c : ℕ) → v ≢ 0 → getD l i 0 ≡ 0 → times v (drop c l) ≤ times v (drop c (set l i x))
-unfolding times
-right-set v [] i x c n e = omega arith
-right-set v (y ∷ ys) zero x zero n e = omega (arith, eqb-diff y v (λ z. n (sym z ∙ e)))
-right-set v (y ∷ ys) (suc i) x zero n e = omega (arith, right-set v ys i x 0 n e)
-right-set v (y ∷ ys) zero x (suc c) n e = omega arith
-right-set v (y ∷ ys) (suc i) x (suc c) n e = right-set v ys i x c n e
+left-set v [] i x c n h e = absurd (omega arith)
+left-set v (y ∷ ys) i x zero n h e = omega (arith, ap (λ (q : Bool). pick q (bit (eqb x v)) 0) (lt-leb (suc i) 0 (omega arith)))
+left-set v (y ∷ ys) zero x (suc c) n h e =
+    omega (arith, eqb-diff y v (λ z. n (sym z ∙ e)), ap (λ (q : Bool). pick q (bit (eqb x v)) 0) (le-leb 1 (suc c) (omega arith)))
+left-set v (y ∷ ys) (suc i) x (suc c) n h e =
+    omega (arith, left-set v ys i x c n (omega arith) e, ap (λ (q : Bool). pick q (bit (eqb x v)) 0) (leb·suc-suc (suc i) c))
 
 -- ONE PIN
 
--- the pins of net v that a pin of `net` at a terminal adds to the row
-abbrev pub newPins : (own net side v : ℕ) → ℕ
-newPins own net side v = pick (eqb side own) (bit (eqb net v)) 0
+-- what a terminal adds to the row of its side, and to no other
+abbrev pub ofSide : (own side b : ℕ) → ℕ
+ofSide own side b = pick (eqb side own) b 0
+
+-- the pins of net v that a pin of `net` in a column adds left of gap c
+abbrev pub leftOf : (net column v c : ℕ) → ℕ
+leftOf net column v c = pick (leb column c) (bit (eqb net v)) 0
 
 module _ (own : ℕ) (row : List ℕ) (net column side : ℕ) where
   -- what holds of the row as it was, and with the pin put
@@ -65,7 +63,7 @@ module _ (own : ℕ) (row : List ℕ) (net column side : ℕ) where
     pin-before = pin-by (λ l. take drawn l ≡ take drawn row) refl (λ e. take-set-le drawn row (column - 1) net (omega (arith, free e .right)))
 
     module _ (v : ℕ) (n : v ≢ 0) where
-      pin-times : times v (withPin own row net column side) ≡ times v row + newPins own net side v
+      pin-times : times v (withPin own row net column side) ≡ times v row + ofSide own side (bit (eqb net v))
       unfolding withPin
       pin-times = go (eqb side own) (sameBy side own)
         where
@@ -76,11 +74,20 @@ module _ (own : ℕ) (row : List ℕ) (net column side : ℕ) where
               omega (arith, times-set v row (column - 1) net (omega (arith, f .right, f .within)))
           go false d = omega arith
 
-      pin-left : (c : ℕ) → times v (take c row) ≤ times v (take c (withPin own row net column side))
-      pin-left c = pin-by (λ l. times v (take c row) ≤ times v (take c l)) (omega arith) (λ e. left-set v row (column - 1) net c n (free e .empty))
-
-      pin-right : (c : ℕ) → times v (drop c row) ≤ times v (drop c (withPin own row net column side))
-      pin-right c = pin-by (λ l. times v (drop c row) ≤ times v (drop c l)) (omega arith) (λ e. right-set v row (column - 1) net c n (free e .empty))
+      pin-left : (c : ℕ) → times v (take c (withPin own row net column side)) ≡ times v (take c row) + ofSide own side (leftOf net column v c)
+      unfolding withPin
+      pin-left c = go (eqb side own) (sameBy side own)
+        where
+          go : (q : Bool) → Same side own q → times v (take c (pick q (set row (column - 1) net) row)) ≡ times v (take c row) + pick q (leftOf net column v c) 0
+          go true (same e) =
+              let f = free e in
+              let s : suc (column - 1) ≡ column = omega (arith, f .right) in
+              omega (
+                arith,
+                left-set v row (column - 1) net c n (omega (arith, f .right, f .within)) (f .empty),
+                ap (λ (k : ℕ). leftOf net k v c) s,
+              )
+          go false d = omega arith
 
 -- BOTH PINS
 
@@ -111,16 +118,12 @@ module _ (own : ℕ) (row : List ℕ) (net column1 side1 column2 side2 : ℕ) wh
     both-before = pin-before own mid net column2 side2 drawn still-free ∙ pin-before own row net column1 side1 drawn one
 
     module _ (v : ℕ) (n : v ≢ 0) where
-      pub both-times : times v both ≡ times v row + newPins own net side1 v + newPins own net side2 v
+      pub both-times : times v both ≡ times v row + ofSide own side1 (bit (eqb net v)) + ofSide own side2 (bit (eqb net v))
       both-times = omega (arith, pin-times own row net column1 side1 drawn one v n, pin-times own mid net column2 side2 drawn still-free v n)
 
-      -- no net has fewer pins left of a gap
-      pub both-left : (c : ℕ) → times v (take c row) ≤ times v (take c both)
+      pub both-left : (c : ℕ)
+          → times v (take c both) ≡ times v (take c row) + ofSide own side1 (leftOf net column1 v c) + ofSide own side2 (leftOf net column2 v c)
       both-left c = omega (arith, pin-left own row net column1 side1 drawn one v n c, pin-left own mid net column2 side2 drawn still-free v n c)
-
-      -- nor right of it
-      pub both-right : (c : ℕ) → times v (drop c row) ≤ times v (drop c both)
-      both-right c = omega (arith, pin-right own row net column1 side1 drawn one v n c, pin-right own mid net column2 side2 drawn still-free v n c)
 
 -- OVER THE CODE'S VARIABLES
 

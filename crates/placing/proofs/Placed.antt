@@ -7,16 +7,16 @@ use mathlib.Core.Bool.{Bool, true, false}
 use mathlib.Core.List.{List}
 use native.Mathlib.Omega.{arith}
 use native.Mathlib.Decide.{ℕ-discrete}
-use lib.Dec.{eqb}
+use lib.Dec.{eqb, leb}
 use lib.ListN.{length, take}
 use Rattle.grid.specs.declared.Family.the-variants.{TwoPin}
 use Rattle.grid.specs.Channel.{pick, bit, count, pins, left, right, isOpen, openAt, largest, density, family, rowsRefused}
 use Rattle.grid.proofs.Tests.{eqb-same, eqb-diff, bit-le, Same, same, diff, sameBy}
 use Rattle.grid.proofs.Counting.{sum-le}
-use Rattle.grid.proofs.Rows.{RowsFit, rows-fit, rows-short, two-fit, open-sides, open-bit}
+use Rattle.grid.proofs.Rows.{RowsFit, rows-fit, rows-short, two-fit, left-right, open-sides, open-bit}
 use Rattle.placing.specs.Placing.{placeRefused, placedTop, placedBottom}
 use Rattle.placing.proofs.Terminals.{Accepted, accepted-by}
-use Rattle.placing.proofs.Pins.{newPins, both-length, both-before, both-times, both-left, both-right}
+use Rattle.placing.proofs.Pins.{ofSide, leftOf, both-length, both-before, both-times, both-left}
 use Rattle.placing.proofs.Taken.{fit-accepted, two-pin}
 
 -- DENSITY: rows in which no net has fewer pins on a side of a gap are no less dense
@@ -46,14 +46,14 @@ module _ (top bottom top′ bottom′ : List ℕ) (lefts : (c v : ℕ) → v ≢
 
 -- A TERMINAL IS OF ONE SIDE
 
-one-side : (net side v : ℕ) → side < 2 → newPins 0 net side v + newPins 1 net side v ≡ bit (eqb net v)
-one-side net side v h = go (eqb side 0) (sameBy side 0) (eqb side 1) (sameBy side 1) (bit (eqb net v))
+one-side : (side b : ℕ) → side < 2 → ofSide 0 side b + ofSide 1 side b ≡ b
+one-side side b h = go (eqb side 0) (sameBy side 0) (eqb side 1) (sameBy side 1)
   where
-    go : (p : Bool) → Same side 0 p → (q : Bool) → Same side 1 q → (b : ℕ) → pick p b 0 + pick q b 0 ≡ b
-    go true (same x) true (same y) b = absurd (omega arith)
-    go true s false t b = omega arith
-    go false s true t b = omega arith
-    go false (diff x) false (diff y) b = absurd (omega arith)
+    go : (p : Bool) → Same side 0 p → (q : Bool) → Same side 1 q → pick p b 0 + pick q b 0 ≡ b
+    go true (same x) true (same y) = absurd (omega arith)
+    go true s false t = omega arith
+    go false s true t = omega arith
+    go false (diff x) false (diff y) = absurd (omega arith)
 
 -- THE CHANNEL WITH THE NET
 
@@ -73,27 +73,38 @@ module _ (top bottom : List ℕ) (drawn net column1 side1 column2 side2 : ℕ) w
           arith,
           both-times 0 top net column1 side1 column2 side2 drawn (a .first .above) (a .second .above) (a .distinct) v n,
           both-times 1 bottom net column1 side1 column2 side2 drawn (a .first .below) (a .second .below) (a .distinct) v n,
-          one-side net side1 v (a .first .sided),
-          one-side net side2 v (a .second .sided),
+          one-side side1 (bit (eqb net v)) (a .first .sided),
+          one-side side2 (bit (eqb net v)) (a .second .sided),
         )
 
-    more-left : (c v : ℕ) → v ≢ 0 → left top bottom c v ≤ left top′ bottom′ c v
+    -- of them left of a gap those of the columns up to it
+    pub more-left : (c v : ℕ) → v ≢ 0 → left top′ bottom′ c v ≡ left top bottom c v + (leftOf net column1 v c + leftOf net column2 v c)
     unfolding left
     more-left c v n =
         omega (
           arith,
           both-left 0 top net column1 side1 column2 side2 drawn (a .first .above) (a .second .above) (a .distinct) v n c,
           both-left 1 bottom net column1 side1 column2 side2 drawn (a .first .below) (a .second .below) (a .distinct) v n c,
+          one-side side1 (leftOf net column1 v c) (a .first .sided),
+          one-side side2 (leftOf net column2 v c) (a .second .sided),
         )
 
+    -- and right of it the others
     more-right : (c v : ℕ) → v ≢ 0 → right top bottom c v ≤ right top′ bottom′ c v
-    unfolding right
     more-right c v n =
         omega (
           arith,
-          both-right 0 top net column1 side1 column2 side2 drawn (a .first .above) (a .second .above) (a .distinct) v n c,
-          both-right 1 bottom net column1 side1 column2 side2 drawn (a .first .below) (a .second .below) (a .distinct) v n c,
+          left-right top bottom v c,
+          left-right top′ bottom′ v c,
+          more-pins v n,
+          more-left c v n,
+          left-most (leb column1 c) (bit (eqb net v)),
+          left-most (leb column2 c) (bit (eqb net v)),
         )
+      where
+        left-most : (q : Bool) (b : ℕ) → pick q b 0 ≤ b
+        left-most true b = omega arith
+        left-most false b = omega arith
 
   module _ (ok : rowsRefused top bottom 256 ≡ 0) (two : family top bottom ≡ TwoPin) where
     module _ (zero : placeRefused top bottom drawn net column1 side1 column2 side2 ≡ 0) where
@@ -164,4 +175,4 @@ module _ (top bottom : List ℕ) (drawn net column1 side1 column2 side2 : ℕ) w
 
       -- a net does not make it less dense
       pub placed-denser : density top bottom ≤ density top′ bottom′
-      placed-denser = denser top bottom top′ bottom′ (more-left accepted) (more-right accepted) placed-length-top
+      placed-denser = denser top bottom top′ bottom′ (λ c v n. omega (arith, more-left accepted c v n)) (more-right accepted) placed-length-top

@@ -73,8 +73,8 @@ module _ {columns drawn net column1 side1 column2 side2 n k : ℕ} {upper lower 
 
   module _ (tracks : ℕ) (first last : List ℕ) where
     -- what the call promises with the answer r and the arrays up, lo, fs and ls after it
-    abbrev pub Channel : (r : ℕ) (up lo fs ls : List ℕ) → Type 0
-    Channel r up lo fs ls = (top bottom strands free low high many extended : List ℕ) (t c : ℕ)
+    abbrev pub PlacedFor : (r : ℕ) (up lo fs ls : List ℕ) → Type 0
+    PlacedFor r up lo fs ls = (top bottom strands free low high many extended : List ℕ) (t c : ℕ)
         → Stands top bottom t c (stateOf columns tracks drawn upper lower first last strands free low high many extended)
         → PlacesLate top bottom t c net column1 side1 column2 side2 r (stateOf columns tracks drawn up lo fs ls strands free low high many extended)
 
@@ -212,13 +212,13 @@ module _ {columns drawn net column1 side1 column2 side2 n k : ℕ} {upper lower 
             late-placed h = record { answer = late-number false (le-ltb tracks d h); stands = late-stands h }
 
     -- THE WAYS OUT OF THE CALL: the placing refuses
-    pub place-refused : k ≢ 0 → Channel k upper lower first last × Kept k upper lower first last
+    pub place-refused : k ≢ 0 → PlacedFor k upper lower first last × Kept k upper lower first last
     place-refused h = (λ top bottom strands free low high many extended t c S. refuses S h, λ strands free low high many extended e. refl)
 
     -- the tracks are too few
     module _ (none : k ≡ 0) (r : RowCheck) (answer : r ≡ rowCheck (take n (xs′ ++ drop n xs)) (take n (ys′ ++ drop n ys)) 256)
         (d : ℕ) (figure : d ≡ sizeOf r .density) where
-      pub place-dense : tracks < d → Channel 23 upper lower first last × Kept 23 upper lower first last
+      pub place-dense : tracks < d → PlacedFor 23 upper lower first last × Kept 23 upper lower first last
       place-dense h =
           (λ top bottom strands free low high many extended t c S. dense S none r answer d figure h, λ strands free low high many extended e. refl)
 
@@ -226,7 +226,7 @@ module _ {columns drawn net column1 side1 column2 side2 n k : ℕ} {upper lower 
       pub place-done : d ≤ tracks → (fs ls old₁ old₂ : List ℕ)
           → fs ≡ ifAccepted (numberOf r) (table (firstColumn (take n (xs′ ++ drop n xs)) (take n (ys′ ++ drop n ys)))) old₁
           → ls ≡ ifAccepted (numberOf r) (table (lastColumn (take n (xs′ ++ drop n xs)) (take n (ys′ ++ drop n ys)))) old₂
-          → Channel 0 (xs′ ++ drop n xs) (ys′ ++ drop n ys) fs ls × Kept 0 (xs′ ++ drop n xs) (ys′ ++ drop n ys) fs ls
+          → PlacedFor 0 (xs′ ++ drop n xs) (ys′ ++ drop n ys) fs ls × Kept 0 (xs′ ++ drop n xs) (ys′ ++ drop n ys) fs ls
       place-done h fs ls old₁ old₂ firsts lasts = (
         λ top bottom strands free low high many extended t c S. late-placed S none r answer d figure fs ls old₁ old₂ firsts lasts h,
         λ strands free low high many extended e. absurd (e refl),

@@ -3,7 +3,7 @@ use Prim.Native.Nat.{ℕ, _-_, _+_, _≤_, max}
 use lib.ListN.{getD}
 use mathlib.Core.Path.{_≡_, sym, ap, _∙_}
 use Rattle.board.specs.Working.{largestIn}
-use Rattle.board.proofs.Loops.{largest-none, largest-next}
+use Rattle.board.proofs.Loops.{largest-of-none, largest-of-next}
 use native.Mathlib.Omega.{arith}
 use borrow.Author.Needs.{needs}
 use Rattle.board.proofs.counts.largest.Statement.{statement}
@@ -16,7 +16,7 @@ abbrev μ-loop : tie.MeasureT-loop
 μ-loop counts n most₀ k₀ most k = n - k
 
 loop-holds : tie.Need-loop-holds Inv-loop μ-loop
-loop-holds c = (omega arith, sym (largest-none (c .before .args .counts .now)))
+loop-holds c = (omega arith, sym (largest-of-none (c .before .args .counts .now)))
 
 add-loop : tie.Need-add-loop Inv-loop μ-loop
 add-loop c = search needs
@@ -40,7 +40,7 @@ loop-again : tie.Need-loop-again Inv-loop μ-loop
 loop-again c =
     let h = c .before .before .before .loop in
     let l = c .before .before .before .before .before .args .counts .now in
-    (omega arith, c .larger .ensures ∙ ap (λ (x : ℕ). max x (getD l (h .k + 1) 0)) (h .inv .1) ∙ largest-next l (h .k))
+    (omega arith, c .larger .ensures ∙ ap (λ (x : ℕ). max x (getD l (h .k + 1) 0)) (h .inv .1) ∙ largest-of-next l (h .k))
 
 returns : tie.Need-returns Inv-loop μ-loop
 returns c =

@@ -2,7 +2,7 @@
 use Prim.Native.Nat.{ℕ, _-_, _≤_}
 use mathlib.Core.Path.{_≡_, refl, sym, ap, _∙_}
 use lib.ListN.{length, length-set}
-use Rattle.board.proofs.Loops.{clearedTo, cleared-none, cleared-next, cleared-all}
+use Rattle.board.proofs.Loops.{clearedTo, clearing-none, clearing-next, clearing-all}
 use native.Mathlib.Omega.{arith}
 use borrow.Author.Needs.{needs}
 use Rattle.board.proofs.rows.clear.Statement.{statement}
@@ -15,7 +15,7 @@ abbrev μ-loop : tie.MeasureT-loop
 μ-loop row₀ net i₀ row i = length row₀ - i
 
 loop-holds : tie.Need-loop-holds Inv-loop μ-loop
-loop-holds c = (omega arith, refl, sym (cleared-none (c .before .args .net) (c .before .args .row .now)))
+loop-holds c = (omega arith, refl, sym (clearing-none (c .before .args .net) (c .before .args .row .now)))
 
 mul-rest : tie.Need-mul-rest Inv-loop μ-loop
 mul-rest c = search needs
@@ -44,7 +44,7 @@ loop-again c =
     let a = c .before .before .before .before .before .args in (
       omega arith,
       length-set (h .row) (h .i) (c .rest .result) ∙ h .inv .1,
-      cleared-next (a .net) (h .i) (c .rest .result) (a .row .now) (h .row) (omega arith) (h .inv .2) (c .rest .ensures),
+      clearing-next (a .net) (h .i) (c .rest .result) (a .row .now) (h .row) (omega arith) (h .inv .2) (c .rest .ensures),
     )
 
 same-length : tie.Need-same-length Inv-loop μ-loop
@@ -54,7 +54,7 @@ returns : tie.Need-returns Inv-loop μ-loop
 returns c =
     let a = c .before .before .before .args in
     let i : c .before .loop .i ≡ length (a .row .now) = omega arith in
-    c .before .loop .inv .2 ∙ ap (λ (k : ℕ). clearedTo (a .net) k (a .row .now)) i ∙ cleared-all (a .net) (a .row .now)
+    c .before .loop .inv .2 ∙ ap (λ (k : ℕ). clearedTo (a .net) k (a .row .now)) i ∙ clearing-all (a .net) (a .row .now)
 
 pub clear-spec : {M : Type 1} → statement M
 clear-spec =

@@ -3,7 +3,7 @@ use Prim.Native.Nat.{_-_, _≤_}
 use mathlib.Core.Path.{_≡_, sym, ap, _∙_}
 use lib.ListN.{length}
 use Rattle.grid.specs.Nets.{isPinned, firstTo, firstColumn}
-use Rattle.board.proofs.Loops.{first-none, first-past, first-found}
+use Rattle.board.proofs.Loops.{first-none, first-not-yet, first-found}
 use native.Mathlib.Omega.{arith}
 use borrow.Author.Needs.{needs}
 use Rattle.board.proofs.rows.first_column.Statement.{statement}
@@ -51,7 +51,7 @@ unfolding isPinned
 loop-again c =
     let h = c .before .before .before .before in
     let a = h .before .args in
-    (omega arith, first-past (a .top .now) (a .bottom .now) (a .net) (h .loop .c) (h .loop .inv .1) (c .if1 .left))
+    (omega arith, first-not-yet (a .top .now) (a .bottom .now) (a .net) (h .loop .c) (h .loop .inv .1) (c .if1 .left))
 
 returns-2 : tie.Need-returns-2 Inv-loop μ-loop
 unfolding firstColumn

@@ -4,7 +4,7 @@ use mathlib.Core.Path.{_≡_, refl, sym, ap, _∙_}
 use mathlib.Core.Bool.{true, false}
 use lib.ListN.{length}
 use Rattle.grid.specs.Nets.{isPinned, lastTo, lastColumn}
-use Rattle.board.proofs.Loops.{last-none, last-by}
+use Rattle.board.proofs.Loops.{last-not-there, last-by}
 use native.Mathlib.Omega.{arith}
 use borrow.Author.Needs.{needs}
 use Rattle.board.proofs.rows.last_column.Statement.{statement}
@@ -63,7 +63,7 @@ returns-2 c =
     let h = c .before .loop in
     let a = c .before .before .args in
     let e : h .c ≡ 0 = omega arith in
-    sym (h .inv .1 ∙ ap (lastTo (a .top .now) (a .bottom .now) (a .net)) e ∙ last-none (a .top .now) (a .bottom .now) (a .net))
+    sym (h .inv .1 ∙ ap (lastTo (a .top .now) (a .bottom .now) (a .net)) e ∙ last-not-there (a .top .now) (a .bottom .now) (a .net))
 
 pub last-column-spec : {M : Type 1} → statement M
 last-column-spec =
