@@ -76,13 +76,13 @@ module _ (first : ℕ) (more : Bool) (old : List ℕ) where
 
 -- THE LARGEST COUNT
 
--- of no gap
+-- of none
 pub largest-of-none : (counts : List ℕ) → largestIn counts 0 ≡ 0
 unfolding largestIn
 largest-of-none counts = refl
 
--- a gap more
-pub largest-of-next : (counts : List ℕ) (k : ℕ) → max (largestIn counts k) (getD counts (k + 1) 0) ≡ largestIn counts (k + 1)
+-- one more
+pub largest-of-next : (counts : List ℕ) (k : ℕ) → max (largestIn counts k) (getD counts k 0) ≡ largestIn counts (k + 1)
 unfolding largestIn
 largest-of-next counts k = rw add-one
 

@@ -35,11 +35,17 @@ counts-at ch g h = from-at (openAt (ch .top) (ch .bottom)) 0 256 g h ∙ ap (ope
 pub counts-by : (ch : Channel) (l : List ℕ) → length l ≡ 256 → ((g : ℕ) → g < 256 → getD l g 0 ≡ openAt (ch .top) (ch .bottom) g) → l ≡ countsOf ch
 counts-by ch l e h = ext-getD 0 l (countsOf ch) (e ∙ sym (counts-length ch)) (λ g b. h g (omega arith) ∙ sym (counts-at ch g (omega arith)))
 
--- the largest of them up to a gap
-largest-stored : (ch : Channel) (k : ℕ) → k < 256 → largestIn (countsOf ch) k ≡ largest (ch .top) (ch .bottom) k
+-- the largest of them: place 0 holds 0
+largest-stored : (ch : Channel) (k : ℕ) → k < 256 → largestIn (countsOf ch) (suc k) ≡ largest (ch .top) (ch .bottom) k
 unfolding largestIn largest
-largest-stored ch zero h = refl
+largest-stored ch zero h = ap (max 0) (counts-at ch 0 (omega arith) ∙ none-open (ch .top) (ch .bottom))
 largest-stored ch (suc k) h = ap₂ max (largest-stored ch k (omega arith)) (counts-at ch (suc k) h)
+
+-- those of n columns
+largest-of : (ch : Channel) (n : ℕ) → n ≤ 256 → largestIn (countsOf ch) n ≡ largest (ch .top) (ch .bottom) (n - 1)
+unfolding largestIn largest
+largest-of ch zero h = refl
+largest-of ch (suc k) h = let e : k ≡ suc k - 1 = omega arith in largest-stored ch k (omega arith) ∙ ap (largest (ch .top) (ch .bottom)) e
 
 -- GAPS WITH NO OPEN NET
 
@@ -117,11 +123,9 @@ module _ (ch : Channel) (x : Board) (h : StandsFor ch x) (n : ℕ) (en : n ≡ m
   held-columns = omega (arith, columns-of x ch (h .board), h .short)
 
   -- the largest stored count is the density
-  pub stored-density : largestIn (x .counts) (n - 1) ≡ density (ch .top) (ch .bottom)
+  pub stored-density : largestIn (x .counts) n ≡ density (ch .top) (ch .bottom)
   unfolding density
-  stored-density =
-      ap₂ (λ (l : List ℕ) (k : ℕ). largestIn l (k - 1)) (counts-of x ch (h .board)) held-columns
-      ∙ largest-stored ch (length (ch .top) - 1) (omega (arith, h .short))
+  stored-density = ap₂ largestIn (counts-of x ch (h .board)) held-columns ∙ largest-of ch (length (ch .top)) (h .short)
 
   -- a stored count is that of its gap
   pub stored-count : (gap : ℕ) → gap < n → getD (x .counts) gap 0 ≡ gapCount ch gap

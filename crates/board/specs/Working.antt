@@ -16,7 +16,7 @@ pub record Mended (first last : ℕ) (more : Bool) (old new : List ℕ) : Type 0
   pub size : length new ≡ length old
   pub at : (g : ℕ) → getD new g 0 ≡ pick (leb first g && ltb g last) (mendedCount more (getD old g 0)) (getD old g 0)
 
--- the largest of the counts at the places 1 to k
+-- the largest of the counts at the first k places
 unfoldable pub largestIn : List ℕ → ℕ → ℕ
 largestIn counts zero = 0
-largestIn counts (suc k) = max (largestIn counts k) (getD counts (suc k) 0)
+largestIn counts (suc k) = max (largestIn counts k) (getD counts k 0)

@@ -1,6 +1,6 @@
 // The stored counts: mended by a change, and the largest of them.
 ghost use mathlib.Core.Path.{_≡_};
-ghost use Prim.Native.Nat.{_-_, _≤_, max};
+ghost use Prim.Native.Nat.{_≤_, max};
 ghost use lib.ListN.{length};
 ghost use Rattle.board.specs.Working.{mendedCount, Mended, largestIn};
 
@@ -38,16 +38,16 @@ fn larger(x: u16, y: u16) -> u16
     if x < y { y } else { x }
 }
 
-// The largest of the counts of the gaps 1 to n - 1.
+// The largest of the counts at the first n places.
 pub(crate) fn largest(counts: &[u16], n: usize) -> u16
     requires { ⌜ n ≤ length (now counts) ⌝ }
-    ensures { λ r. ⌜ r ≡ largestIn (now (counts .entry)) (n - 1) ⌝ }
+    ensures { λ r. ⌜ r ≡ largestIn (now (counts .entry)) n ⌝ }
 {
     let mut most = 0;
     let mut k = 0;
-    while k + 1 < n {
-        k += 1;
+    while k < n {
         most = larger(most, counts[k]);
+        k += 1;
     }
     most
 }

@@ -1,5 +1,5 @@
--- `largest` meets its contract. The invariant: the largest of the counts at the places 1 to k. Assumes nothing.
-use Prim.Native.Nat.{ℕ, _-_, _+_, _≤_, max}
+-- `largest` meets its contract. The invariant: `most` is the largest of the counts at the first k places. Assumes nothing.
+use Prim.Native.Nat.{ℕ, _-_, _≤_, max}
 use lib.ListN.{getD}
 use mathlib.Core.Path.{_≡_, sym, ap, _∙_}
 use Rattle.board.specs.Working.{largestIn}
@@ -10,19 +10,13 @@ use Rattle.board.proofs.counts.largest.Statement.{statement}
 use Rattle.board.proofs.counts.largest.Tie as tie
 
 abbrev Inv-loop : tie.InvT-loop
-Inv-loop counts n most₀ k₀ most k = (k ≤ n - 1) × (most ≡ largestIn counts k)
+Inv-loop counts n most₀ k₀ most k = (k ≤ n) × (most ≡ largestIn counts k)
 
 abbrev μ-loop : tie.MeasureT-loop
 μ-loop counts n most₀ k₀ most k = n - k
 
 loop-holds : tie.Need-loop-holds Inv-loop μ-loop
 loop-holds c = (omega arith, sym (largest-of-none (c .before .args .counts .now)))
-
-add-loop : tie.Need-add-loop Inv-loop μ-loop
-add-loop c = search needs
-
-add-k : tie.Need-add-k Inv-loop μ-loop
-add-k c = search needs
 
 mul-larger : tie.Need-mul-larger Inv-loop μ-loop
 mul-larger c = search needs
@@ -33,6 +27,9 @@ shared-slice-read-larger c = search needs
 larger-requires : tie.Need-larger-requires Inv-loop μ-loop
 larger-requires c κs = search needs
 
+add-k : tie.Need-add-k Inv-loop μ-loop
+add-k c = search needs
+
 loop-less : tie.Need-loop-less Inv-loop μ-loop
 loop-less c = search needs
 
@@ -40,12 +37,12 @@ loop-again : tie.Need-loop-again Inv-loop μ-loop
 loop-again c =
     let h = c .before .before .before .loop in
     let l = c .before .before .before .before .before .args .counts .now in
-    (omega arith, c .larger .ensures ∙ ap (λ (x : ℕ). max x (getD l (h .k + 1) 0)) (h .inv .1) ∙ largest-of-next l (h .k))
+    (omega arith, c .larger .ensures ∙ ap (λ (x : ℕ). max x (getD l (h .k) 0)) (h .inv .1) ∙ largest-of-next l (h .k))
 
 returns : tie.Need-returns Inv-loop μ-loop
 returns c =
     let a = c .before .before .before .args in
-    let k : c .before .loop .k ≡ a .n - 1 = omega arith in
+    let k : c .before .loop .k ≡ a .n = omega arith in
     c .before .loop .inv .1 ∙ ap (largestIn (a .counts .now)) k
 
 pub largest-spec : {M : Type 1} → statement M
@@ -55,11 +52,10 @@ largest-spec =
     Inv-loop
     μ-loop
     loop-holds
-    add-loop
-    add-k
     mul-larger
     shared-slice-read-larger
     larger-requires
+    add-k
     loop-less
     loop-again
     returns)
