@@ -16,18 +16,19 @@
  * no horizontal edge, the edges of each net are one piece, and no net has a
  * loose end: a grid point on rows 1 to t where it has one edge.
  *
- * Numbers. Each call but gaxwethi_column answers with a number: 0 for
- * acceptance, else why it is refused. Refusals are checked from the top of this
- * table down; a call skips those of the places that it lacks. A refused call
- * writes nothing: all that it is lent keeps its contents, but that a refused
- * start leaves a sweep of the channel without columns. Its other figures are 0,
- * but for the checker's place, column and row.
+ * Numbers. Each call answers with a number, but for gaxwethi_column and a
+ * board's density and count: 0 for acceptance, else why it is refused. Refusals
+ * are checked from the top of this table down; a call skips those of the places
+ * that it lacks. A refused call writes nothing: all that it is lent keeps its
+ * contents, but that a refused start leaves a sweep or a board of the channel
+ * without columns. Its other figures are 0, but for the checker's place, column
+ * and row.
  *
  *    Record    1  under 4 or over 1,030 bytes, or a wrong length field
  *              2  kind not 1
  *              3  body under 2 bytes, or not 2 + 4n bytes
  *    Rows      4  lengths differ
- *              5  over 256 columns; for a listing over 64
+ *              5  over 256 columns, also of a board; for a listing over 64
  *              6  a number over 256
  *              7  a net with one pin; for a driven sweep, any without exactly
  *                 two
@@ -46,20 +47,23 @@
  *             15  horizontal edge in the last column
  *             16  a net in more than one piece
  *             17  a loose end
- *    Late net  6  number 0 or over 256
+ *    New net   6  number 0 or over 256
  *             21  number in use
  *             22  a terminal not free or not allowed
- *             23  density over the tracks
+ *             23  density over the tracks; not for a board
+ *    Drop      6  number 0 or over 256
+ *             24  no such net on the board
  *
  * Slices. A slice is lent as a pointer and a length in elements. The pointer
  * is not null, also where the length is 0, is aligned, and is good for that
  * many elements. The text of gaxwethi_list is lent as a pointer alone and is
- * good for GAXWETHI_TEXT bytes; the members of a gaxwethi_sweep are lent so too,
- * each good for its size. What is written overlaps no other argument. These are
- * the only conditions: all contents and all numbers are taken.
+ * good for GAXWETHI_TEXT bytes; the members of a gaxwethi_sweep and of a
+ * gaxwethi_board are lent so too, each good for its size. What is written
+ * overlaps no other argument. These are the only conditions: all contents and
+ * all numbers are taken.
  *
- * No call keeps state, as the caller holds that of a driven sweep, and every
- * call ends; calls from several threads are independent.
+ * No call keeps state, as the caller holds that of a driven sweep and the board,
+ * and every call ends; calls from several threads are independent.
  */
 
 #ifndef GAXWETHI_H
@@ -371,6 +375,99 @@ gaxwethi_place(gaxwethi_sweep *sweep, uint16_t net, size_t column1,
                                 sweep->top, sweep->bottom, sweep->first,
                                 sweep->last, net, column1, side1, column2,
                                 side2);
+}
+
+/*
+ * A channel on the drawing board: two-pin nets are added and dropped, and the
+ * density is asked for between. The caller holds the board; gaxwethi_new_board
+ * makes it, whatever stood there before.
+ *
+ * To be read are the channel's columns n, the rows, the first n numbers of top
+ * and bottom, and the counts: counts[g] is that at gap g, the open nets between
+ * the columns g and g + 1, which each change mends. All numbers behind these,
+ * and counts[0], are 0. What is said of the calls below holds for a board as the
+ * call before left it. With any other a call still ends, and a refused change
+ * leaves it as it was.
+ */
+typedef struct {
+    size_t columns;
+    uint16_t top[256];
+    uint16_t bottom[256];
+    uint16_t counts[256];
+} gaxwethi_board;
+
+/*
+ * The library's own calls for a board. They take it member by member; the
+ * functions after them pass these.
+ */
+uint16_t gaxwethi_board_start(size_t n, size_t *columns,
+                              uint16_t *top, uint16_t *bottom,
+                              uint16_t *counts);
+
+uint16_t gaxwethi_board_add(size_t columns,
+                            uint16_t *top, uint16_t *bottom,
+                            uint16_t *counts,
+                            uint16_t net,
+                            size_t column1, uint16_t side1,
+                            size_t column2, uint16_t side2);
+
+uint16_t gaxwethi_board_drop(size_t columns,
+                             uint16_t *top, uint16_t *bottom,
+                             uint16_t *counts,
+                             uint16_t net);
+
+uint16_t gaxwethi_board_density(size_t columns, const uint16_t *counts);
+
+uint16_t gaxwethi_board_count(size_t columns, const uint16_t *counts,
+                              size_t gap);
+
+/*
+ * Begins a board of n columns without nets. Refuses with 5 if n is over 256; the
+ * board then has no columns.
+ */
+static inline uint16_t
+gaxwethi_new_board(gaxwethi_board *board, size_t n)
+{
+    return gaxwethi_board_start(n, &board->columns, board->top, board->bottom,
+                                board->counts);
+}
+
+/*
+ * Adds a net at two terminals, each a column, counted from 1, and a side, 0 for
+ * top and 1 for bottom. Refuses with 6, 21 and 22.
+ *
+ * 22 is a terminal that has a pin, lies outside the channel or has another side,
+ * and one terminal given twice. A dropped number may be used again.
+ */
+static inline uint16_t
+gaxwethi_add_net(gaxwethi_board *board, uint16_t net, size_t column1,
+                 uint16_t side1, size_t column2, uint16_t side2)
+{
+    return gaxwethi_board_add(board->columns, board->top, board->bottom,
+                              board->counts, net, column1, side1, column2,
+                              side2);
+}
+
+/* Drops a net. Refuses with 6, and with 24 if it is not there. */
+static inline uint16_t
+gaxwethi_drop_net(gaxwethi_board *board, uint16_t net)
+{
+    return gaxwethi_board_drop(board->columns, board->top, board->bottom,
+                               board->counts, net);
+}
+
+/* The density of the channel: the largest count. It is never refused. */
+static inline uint16_t
+gaxwethi_density_of_board(const gaxwethi_board *board)
+{
+    return gaxwethi_board_density(board->columns, board->counts);
+}
+
+/* The count at a gap; 0 outside 1 to n - 1. It is never refused. */
+static inline uint16_t
+gaxwethi_count_at_gap(const gaxwethi_board *board, size_t gap)
+{
+    return gaxwethi_board_count(board->columns, board->counts, gap);
 }
 
 #ifdef __cplusplus

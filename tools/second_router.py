@@ -1,17 +1,18 @@
 #!/usr/bin/env python3
-"""A second router, checker, net report, canonical record and column-by-column sweep for knock-knee channels.
+"""A second router, checker, net report, canonical record, column-by-column sweep and drawing board for knock-knee channels.
 
-Written from documents 01 and 02 alone, the third sweep with the choices of docs/THREE-PIN.md, so that its answers can be laid beside those of the proved one.
+Written from documents 01 and 02, the third sweep with the choices of docs/THREE-PIN.md, so that its answers can be laid beside those of the proved one.
 It keeps the tracks of each net as a set, draws wires row by row, and finds pieces by a search over grid points.
 
     second_router.py list  < record      the listing of one record
     second_router.py compare FILE ...    compare with files of worked cases, whose names end in routes.txt, needs.txt, listings.txt, checks.txt,
-                                         reports.txt, long.txt, records.txt, pairs.txt, steps.txt or short.txt; cases of games are skipped
+                                         reports.txt, long.txt, records.txt, pairs.txt, steps.txt, short.txt or boards.txt; cases of games are skipped
 """
 
 import copy
 import sys
 
+from second_board import Board
 from second_channel import LARGEST, TWO_PIN, family, refusal
 from second_checker import check
 from second_record import canonical, read_record
@@ -166,18 +167,17 @@ def same_short_step(sweep, layout, line):
     return sweep.step(lent, k) == (worked, 0, False) and lent == layout[:-1] and vars(sweep) == vars(before)
 
 
-def same_place(sweep, line):
-    """Whether a late net is answered as in a worked case; a refused one changes nothing."""
-    words, before = line.split(" "), copy.deepcopy(sweep)
-    net, column, side, other_column, other_side, worked = map(int, words[1:6] + words[7:])
-    number = sweep.place(net, (column, side), (other_column, other_side))
-    return number == worked and (number == 0 or vars(sweep) == vars(before))
+def same_net(state, call, line):
+    """Whether a call with a net, and its two terminals if it has some, is answered as in a worked case; a refused one changes nothing."""
+    (net, *given), before = row(line.partition(" number ")[0]), copy.deepcopy(state)
+    number = call(net, *zip(given[::2], given[1::2]))
+    return line.endswith(" number %d" % number) and (number == 0 or vars(state) == vars(before))
 
 
 def same_call(sweep, layout, line, width):
     """Whether one call of a worked case is answered as there."""
     if line.startswith("place "):
-        return same_place(sweep, line)
+        return same_net(sweep, sweep.place, line)
     if line.startswith("short "):
         return same_short_step(sweep, layout, line.removeprefix("short "))
     return same_step(sweep, layout, line, width)
@@ -206,6 +206,29 @@ def same_steps(part, sweep_of=Sweep):
     return all(same) and route(*sweep.rows)[1:] == (t, width, drawn) and layout[len(drawn) :] == [-1] * (length - len(drawn))
 
 
+def same_answer(board, line):
+    """Whether one call of a worked case with a board is answered as there."""
+    word = line.split(" ")[0]
+    if word in ("add", "drop"):
+        return same_net(board, board.add if word == "add" else board.drop, line)
+    if word == "count":
+        gap, worked = row(line)
+        return board.count(gap) == worked
+    return line == "density %d" % board.density()
+
+
+def same_board(part, board_of=Board):
+    """Whether a board with the changes of a worked case gives its answers."""
+    board = board_of()
+    board.start(3)  # another channel before, of which nothing must stay
+    board.add(1, (1, 0), (3, 1))
+    columns, number = figures(part[0])
+    if board.start(columns) != number:
+        return False
+    kept = 0 if number else columns
+    return board.rows == ([0] * kept, [0] * kept) and all(same_answer(board, line) for line in part[1:])
+
+
 def is_game(part):
     """Whether a case is of Job 13, which is skipped."""
     return part[0].startswith("game ")
@@ -222,6 +245,7 @@ KINDS = {
     "pairs.txt": same_pair,
     "steps.txt": same_steps,
     "short.txt": same_steps,
+    "boards.txt": same_board,
 }
 
 

@@ -3,15 +3,16 @@
 Each column is drawn when its turn comes, by the rules of such channels, from the rows as they are by then and the tracks that the column before it left.
 """
 
-from second_channel import LARGEST, density, pin_counts, refusal, span
+from second_channel import density, pin_counts, refusal, span
 from second_column import Column, Pins
+from second_placing import refused_net, with_net
 from second_sweep import empty_column, two_pin_column
 
 
 class Sweep:
     """The rows with the late nets so far, top and bottom; the tracks; the columns drawn; and the tracks of each net right of them.
 
-    A new one is that of the channel without columns. A terminal is a column, from 1, and a side, 0 for top and 1 for bottom.
+    A new one is that of the channel without columns.
     """
 
     def __init__(self):
@@ -66,29 +67,11 @@ class Sweep:
 
     def place(self, net, one, other):
         """Places a late net at two terminals, unless it is refused; the number."""
-        number = self.refused_net(net, one, other)
+        number = refused_net(self.rows, self.drawn, net, one, other) or self.too_dense(net, one, other)
         if number == 0:
-            self.rows = self.with_net(net, one, other)
+            self.rows = with_net(self.rows, net, one, other)
         return number
 
-    def refused_net(self, net, one, other):
-        """The first of 6, 21, 22 and 23 that applies to a late net; 0 if none does."""
-        if not 1 <= net <= LARGEST:
-            return 6
-        if net in self.rows[0] + self.rows[1]:
-            return 21
-        if one == other or not self.allowed(one) or not self.allowed(other):
-            return 22
-        return 23 if density(*self.with_net(net, one, other)) > self.tracks else 0
-
-    def allowed(self, terminal):
-        """Whether a terminal is free, within the channel and right of the last drawn column."""
-        column, side = terminal
-        return self.drawn < column <= self.columns() and side in (0, 1) and self.rows[side][column - 1] == 0
-
-    def with_net(self, net, *terminals):
-        """The rows with a net more."""
-        rows = list(self.rows[0]), list(self.rows[1])
-        for column, side in terminals:
-            rows[side][column - 1] = net
-        return rows
+    def too_dense(self, net, one, other):
+        """23 if the tracks are too few with a net more, else 0."""
+        return 23 if density(*with_net(self.rows, net, one, other)) > self.tracks else 0

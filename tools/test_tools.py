@@ -6,7 +6,9 @@ import pathlib
 import re
 import subprocess
 import sys
+import types
 import unittest
+from unittest import mock
 from xml.dom import minidom
 
 import channel
@@ -18,6 +20,7 @@ import reports
 import second_report
 import second_router
 import three_pin_channels
+from second_board import Board
 from second_channel import MANY_PIN, THREE_PIN, TWO_PIN, density, family, refusal, span
 from second_checker import check
 from second_record import canonical, read_record, renumbered
@@ -38,6 +41,11 @@ def small_channels(n, pins):
         top, bottom = list(terminals[::2]), list(terminals[1::2])
         if not refusal(top, bottom) and renumbered(top, bottom) == (top, bottom) and all(terminals.count(net) <= pins for net in range(1, n + 1)):
             yield top, bottom
+
+
+def terminals(top, bottom, net):
+    """The terminals of a net: columns, from 1, and sides, 0 for top and 1 for bottom."""
+    return [(column, side) for side, pins in enumerate((top, bottom)) for column, number in enumerate(pins, 1) if number == net]
 
 
 class Channel(unittest.TestCase):
@@ -269,8 +277,18 @@ class Driven:
         return self.sweep.tracks, self.sweep.drawn, self.layout[: self.sweep.drawn * (2 * self.sweep.tracks + 1)]
 
 
-# Faults of the sweep, which the worked cases find: what its text has, and what it has instead.
-FAULTS = [
+# Faults that the worked cases find: what a text has, and what it has instead. First those in the placing of a net, which sweep and board share.
+PLACING_FAULTS = [
+    ("1 <= net", "0 <= net"),
+    ("<= LARGEST", "<= LARGEST + 1"),
+    ("rows[0] + rows[1]", "rows[0]"),
+    ("one == other or ", ""),
+    (" or not allowed(rows, drawn, other)", ""),
+    ("drawn < column", "drawn + 1 < column"),
+    ("<= len(rows[0])", "< len(rows[0])"),
+    (" and rows[side][column - 1] == 0", ""),
+]
+SWEEP_FAULTS = [
     ("count != 2", "count < 2"),  # nets of three pins
     ("            self.begin([], [])\n", ""),  # a refused start leaves what was
     ("t // 2", "(t + 1) // 2"),
@@ -284,27 +302,41 @@ FAULTS = [
     ("k -= 1", "k -= 2"),
     ("two_pin_column if pins.here() else empty_column", "two_pin_column if pins.here() else lambda *_: None"),
     ("if number == 0", "if number in (0, 23)"),  # a refused net stays
-    ("1 <= net", "0 <= net"),
-    ("<= LARGEST", "<= LARGEST + 1"),
-    ("self.rows[0] + self.rows[1]", "self.rows[0]"),
-    ("self.rows[0] + self.rows[1]", "self.rows[0][self.drawn :] + self.rows[1][self.drawn :]"),  # the number of a net that is drawn
-    ("one == other or ", ""),
-    (" or not self.allowed(other)", ""),
-    ("self.drawn < column", "self.drawn <= column"),
-    (" and self.rows[side][column - 1] == 0", ""),
+    ("if used(rows, net)", "if used((rows[0][drawn:], rows[1][drawn:]), net)"),  # the number of a net that is drawn
+    ("drawn < column", "drawn <= column"),
     ("> self.tracks", "> self.tracks + 1"),
     ("> self.tracks", ">= self.tracks"),
     ("return 23", "return 0"),
 ]
+BOARD_FAULTS = [
+    ("columns > LARGEST", "columns > LARGEST + 1"),
+    ("            columns = 0\n", "            return number\n"),  # a refused start leaves what was
+    ("number == 0", "number in (0, 21)"),  # a refused net stays
+    ("if not numbered(net):\n            return 6\n        ", ""),
+    ("return 24", "return 0"),
+    ("drawn < column", "-len(rows[0]) < column"),  # column 0
+    ("for pins in self.rows)", "for pins in self.rows[:1]) + self.rows[1:]"),  # a bottom pin stays
+    ("0 if number == net else number for", "0 if number >= net else number for"),  # other nets dropped too
+    ("density(*self.rows)", "density(*self.rows) + 1"),
+    ("density(*self.rows)", "density(self.rows[0][1:], self.rows[1][1:])"),  # no gap 1
+    ("density(*self.rows)", "max(map(self.count, range(1, len(self.rows[0]) - 1)), default=0)"),  # no last gap
+    ("top[:gap] + bottom[:gap]", "top[: gap + 1] + bottom[: gap + 1]"),
+    ("top[gap:] + bottom[gap:]", "top[gap + 1 :] + bottom[gap + 1 :]"),
+    ("top[:gap] + bottom[:gap]", "top[:gap]"),
+    (" - {0}", ""),
+]
 
 
-def planted(there, instead):
-    """The sweep with a fault."""
-    text, names = (HERE / "second_steps.py").read_text(), {}
-    if text.count(there) != 1:
-        raise AssertionError("not once in the sweep's text: " + there)
-    exec(text.replace(there, instead), names)
-    return names["Sweep"]
+def planted(user, there, instead):
+    """The names of a module that places nets, with a fault in its text or in that of the placing."""
+    placing, text = ((HERE / name).read_text() for name in ("second_placing.py", user))
+    if (placing + text).count(there) != 1:
+        raise AssertionError("not once in the texts: " + there)
+    faulty, names = types.ModuleType("second_placing"), {}
+    exec(placing.replace(there, instead), vars(faulty))
+    with mock.patch.dict(sys.modules, second_placing=faulty):
+        exec(text.replace(there, instead), names)
+    return names
 
 
 class Steps(unittest.TestCase):
@@ -338,9 +370,9 @@ class Steps(unittest.TestCase):
 
     def test_faults_are_found(self):
         parts = [part for part in self.steps + self.short if not second_router.is_game(part)]
-        for there, instead in FAULTS:
+        for there, instead in PLACING_FAULTS + SWEEP_FAULTS:
             with self.subTest(there=there, instead=instead):
-                faulty = planted(there, instead)
+                faulty = planted("second_steps.py", there, instead)["Sweep"]
                 self.assertFalse(all(second_router.same_steps(part, faulty) for part in parts))
 
     def test_another_case_differs(self):
@@ -409,8 +441,7 @@ class Steps(unittest.TestCase):
         driven, ends = Driven(*([0 if net in nets else net for net in pins] for pins in (top, bottom))), span(top, bottom)
         for net in sorted(nets, key=ends.get):
             driven.step(ends[net][0] - 1 - driven.sweep.drawn if latest else 0)
-            one, other = ((column, side) for side, pins in enumerate((top, bottom)) for column, number in enumerate(pins, 1) if number == net)
-            number = driven.sweep.place(net, one, other)
+            number = driven.sweep.place(net, *terminals(top, bottom, net))
             if number:
                 return driven, number
         driven.step(9)
@@ -428,6 +459,81 @@ class Steps(unittest.TestCase):
                         self.assertEqual((driven.sweep.rows, driven.sweep.finished(), driven.drawing()), ((top, bottom), True, route(top, bottom)[1:]))
                     numbers.append(number)
         self.assertEqual(([numbers.count(number) for number in (0, 23)], len(numbers)), ([2800, 8088], 10888))
+
+
+class Boards(unittest.TestCase):
+    """The channel on the drawing board, on the worked cases of job11-boards.txt and on other changes."""
+
+    parts = second_router.blocks(HERE / "cases" / "job11-boards.txt")
+
+    def numbers(self, word):
+        """The numbers that the calls of a word answer."""
+        return [int(line.split(" ")[-1]) for part in self.parts for line in part if line.startswith(word)]
+
+    def test_worked_boards(self):
+        self.assertEqual([part for part in self.parts if not second_router.same_board(part)], [])
+        boards, added, dropped = self.numbers("board "), self.numbers("add "), self.numbers("drop ")
+        self.assertEqual(([boards.count(number) for number in (0, 5)], len(boards)), ([102, 2], 104))
+        self.assertEqual(([added.count(number) for number in (0, 6, 21, 22)], len(added)), ([1315, 373, 693, 1748], 4129))
+        self.assertEqual(([dropped.count(number) for number in (0, 6, 24)], len(dropped)), ([1009, 98, 1034], 2141))
+        self.assertEqual((len(self.numbers("density ")), len(self.numbers("count "))), (6270, 6678))
+
+    def test_faults_are_found(self):
+        for there, instead in PLACING_FAULTS + BOARD_FAULTS:
+            with self.subTest(there=there, instead=instead):
+                faulty = planted("second_board.py", there, instead)["Board"]
+                self.assertFalse(all(second_router.same_board(part, faulty) for part in self.parts))
+
+    def test_another_case_differs(self):
+        case = ["board 3 number 0", "density 0", "add 7 1 0 3 1 number 0", "count 2 1", "add 7 2 0 2 1 number 21", "add 8 2 1 2 0 number 0", "density 1"]
+        case += ["drop 9 number 24", "drop 7 number 0", "count 2 0", "add 7 3 1 2 1 number 22"]
+        refused = ["board 257 number 5", "density 0", "count 1 0", "add 1 1 0 1 1 number 22"]
+        self.assertTrue(second_router.same_board(case) and second_router.same_board(refused))
+        others = [(0, "board 2 number 0"), (0, "board 3 number 5"), (1, "density 1"), (1, "count 1 1"), (2, "add 7 1 0 3 1 number 21")]
+        others += [(2, "add 8 1 0 3 1 number 0"), (2, "add 7 1 0 1 1 number 0"), (3, "count 3 1"), (3, "count 2 2"), (4, "add 7 2 0 2 1 number 22")]
+        others += [(5, "add 8 2 1 3 0 number 0"), (6, "density 2"), (7, "drop 9 number 0"), (7, "drop 8 number 0"), (8, "drop 7 number 24"), (8, "drop 8 number 0")]
+        others += [(9, "count 2 1"), (9, "")]
+        for place, line in others:
+            with self.subTest(line):
+                self.assertFalse(second_router.same_board(case[:place] + [line] + case[place + 1 :]))
+        for other in (case[:8] + case[9:], ["board 257 number 0"], ["board 256 number 5"], refused[:1] + case[1:]):
+            self.assertFalse(second_router.same_board(other))
+
+    def test_start(self):
+        board = Board()
+        for columns, number in [(0, 0), (2, 0), (256, 0), (257, 5), (65536, 5), (3, 0)]:
+            self.assertEqual((board.start(columns), board.density()), (number, 0))
+            n = 0 if number else columns
+            self.assertEqual(board.rows, ([0] * n, [0] * n))
+            self.assertEqual(board.add(1, (1, 0), (2, 1)), 0 if n > 1 else 22)
+            self.assertEqual([board.count(gap) for gap in (0, 1, 2, 255, 256, 65536)], [0, int(n > 1), 0, 0, 0, 0])
+
+    def test_order_of_refusals(self):
+        board = Board()
+        board.start(4)
+        self.assertEqual((board.add(1, (1, 0), (3, 0)), board.drop(2), board.drop(0), board.drop(257), board.drop(65536)), (0, 24, 6, 6, 6))
+        self.assertEqual([board.add(net, (0, 7), (0, 7)) for net in (0, 257, 65536, 1, 2)], [6, 6, 6, 21, 22])
+        for terminal in [(0, 0), (1, 0), (3, 0), (5, 0), (65536, 1), (2, 2), (2, 65536), (4, 0)]:  # outside, not free, on no side, or the other one
+            self.assertEqual((board.add(2, terminal, (4, 0)), board.add(256, (4, 0), terminal)), (22, 22))
+        self.assertEqual((board.rows, board.density()), (([1, 0, 1, 0], [0, 0, 0, 0]), 1))
+        self.assertEqual((board.add(256, (4, 1), (1, 1)), board.drop(1), board.drop(1), board.add(1, (3, 1), (3, 0))), (0, 0, 24, 0))
+        self.assertEqual((board.rows, board.density()), (([0, 0, 1, 0], [256, 0, 1, 256]), 1))
+
+    def test_all_small_channels(self):
+        channels = [rows for n in range(5) for rows in small_channels(n, 2)]
+        for top, bottom in channels:
+            for order in itertools.permutations(span(top, bottom)):
+                board, densities = Board(), [0]
+                board.start(len(top))
+                for net in order:
+                    self.assertEqual(board.add(net, *terminals(top, bottom, net)), 0)
+                    densities.append(board.density())
+                    self.assertEqual(densities[-1], max(board.count(gap) for gap in range(len(top) + 2)))
+                self.assertEqual((board.rows, densities[-1]), ((top, bottom), density(top, bottom)))
+                for net in reversed(order):
+                    self.assertEqual((board.density(), board.drop(net)), (densities.pop(), 0))
+                self.assertEqual(board.rows, ([0] * len(top), [0] * len(top)))
+        self.assertEqual(len(channels), 853)
 
 
 class Records(unittest.TestCase):

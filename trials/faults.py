@@ -16,7 +16,7 @@ HERE = pathlib.Path(__file__).resolve().parent
 WORK = HERE / "target" / "faults"
 CHANNELS = "20000"
 
-ROWS, CHECK, REPORT, LIST, ROUTE, RECORD = (f"baseline/src/{x}.rs" for x in ("rows", "check", "report", "list", "route", "record"))
+ROWS, CHECK, REPORT, LIST, ROUTE, RECORD, BOARD = (f"baseline/src/{x}.rs" for x in ("rows", "check", "report", "list", "route", "record", "board"))
 TWO, MANY, THREE, STEPS = (f"baseline/src/route/{x}.rs" for x in ("two_pin", "many_pin", "three_pin", "steps"))
 CALLS = "standin/src/lib.rs"
 
@@ -26,6 +26,10 @@ def highest(family):
     return f"let last = self.stretched.members().last().filter(|_| self.family == Family::{family});\n" \
         "        match last.or(self.stretched.lowest()) {"
 
+
+# Refusal 6 of an added net, with the start of what follows, and of a dropped one.
+REFUSED_6 = "        if net == 0 || net > 256 {\n            return Err(6);\n        }\n        "
+ADDED_6, DROPPED_6 = REFUSED_6 + "if self.rows", REFUSED_6 + "let rows"
 
 # Label, file, text, text with the fault.
 FAULTS = [
@@ -369,6 +373,53 @@ FAULTS = [
      "            *placed.terminal(column, side).unwrap() = net;"),
     ("late net not taken down", STEPS, "        *self = placed;\n", ""),
     ("late net's columns not taken down", STEPS, "        placed.know(&nets);\n", ""),
+    ("256 columns on a board refused", BOARD, "columns > 256", "columns >= 256"),
+    ("257 columns on a board taken for 256", BOARD, "        if columns > 256", "        let columns = if columns == 257 { 256 } else { columns };\n        if columns > 256"),
+    ("columns of a board of 16 bits", BOARD, "        if columns > 256", "        let columns = columns as u16 as usize;\n        if columns > 256"),
+    ("refused board left as it was", CALLS, "Err(number) => (number, Board::default()),", "Err(number) => return number,"),
+    ("refused board keeps 256 columns", CALLS, "Err(number) => (number, Board::default()),",
+     "Err(number) => (number, Board::new(n.min(256)).unwrap()),"),
+    ("old pins behind a new board", CALLS, "(*columns, *top, *bottom, *counts) = (board.counts.len(), [0; 256], [0; 256], [0; 256]);",
+     "(*columns, *top, *counts) = (board.counts.len(), [0; 256], [0; 256]);"),
+    ("old counts behind a new board", CALLS, "(*columns, *top, *bottom, *counts) = (board.counts.len(), [0; 256], [0; 256], [0; 256]);",
+     "(*columns, *top, *bottom) = (board.counts.len(), [0; 256], [0; 256]);"),
+    ("added net 257", BOARD, ADDED_6, ADDED_6.replace("256", "257")),
+    ("dropped net 257", BOARD, DROPPED_6, DROPPED_6.replace("256", "257")),
+    ("dropped net 0", BOARD, DROPPED_6, DROPPED_6.replace("net == 0 || ", "")),
+    ("24 before 6", BOARD, DROPPED_6,
+     "        if !self.rows.iter().any(|row| row.contains(&net)) {\n            return Err(24);\n        }\n" + DROPPED_6),
+    ("22 before 6 on a board", BOARD, ADDED_6, ADDED_6.replace("if net", "if one != other && (net").replace("256", "256)")),
+    ("22 before 21 on a board", BOARD, "if self.rows.iter().any(|row| row.contains(&net)) {",
+     "if self.is_free(one) && self.is_free(other) && self.rows.iter().any(|row| row.contains(&net)) {"),
+    ("21 in the bottom row only", BOARD, "self.rows.iter().any(|row| row.contains(&net))", "self.rows[1].contains(&net)"),
+    ("added on another's pin", BOARD, "get(column.wrapping_sub(1))) == Some(&0)", "get(column.wrapping_sub(1))).is_some()"),
+    ("added with one terminal", BOARD, "one == other || ", ""),
+    ("first pin of a net refused on a board", BOARD, "return Err(22);",
+     "if self.is_free(one) {\n                self.rows[one.1 as usize][one.0 - 1] = net;\n            }\n            return Err(22);"),
+    ("refused net counted", BOARD, "return Err(22);", "self.counts.iter_mut().skip(1).take(1).for_each(|count| *count += 1);\n            return Err(22);"),
+    ("a gap too many mended", BOARD, "self.counts[first..last]", "let n = self.counts.len();\n        self.counts[first..(last + 1).min(n)]"),
+    ("a gap before the first column mended", BOARD, "self.counts[first..last]", "self.counts[first - 1..last]"),
+    ("the last gap of a net not mended", BOARD, "self.counts[first..last]", "self.counts[first..last.max(first + 1) - 1]"),
+    ("the last gap of a board not mended", BOARD, "self.counts[first..last]",
+     "let n = self.counts.len();\n        self.counts[first..last.min(n - 1).max(first)]"),
+    ("a net in one column counted", BOARD, "self.counts[first..last]", "let n = self.counts.len();\n        self.counts[first..last.max(first + 1).min(n)]"),
+    ("columns in the order given", BOARD, "(one.0.min(other.0), one.0.max(other.0))", "(one.0, one.0.max(other.0))"),
+    ("a drop leaves the counts", BOARD, "        self.counts[first + 1..=last].iter_mut().for_each(|count| *count -= 1);\n", ""),
+    ("a drop leaves the last count", BOARD, "self.counts[first + 1..=last]", "self.counts[first + 1..last.max(first + 1)]"),
+    ("a drop mends a gap too many", BOARD, "self.counts[first + 1..=last]",
+     "let n = self.counts.len();\n        self.counts[first + 1..(last + 2).min(n)]"),
+    ("a drop mends up to the top row's last pin", BOARD, "let columns = rows.filter_map", "let columns = rows.take(1).filter_map"),
+    ("a drop leaves the bottom pin", BOARD, "for row in &mut self.rows {", "for row in &mut self.rows[..1] {"),
+    ("a drop leaves the second pin of a row", BOARD, ".filter(|pin| **pin == net).for_each", ".filter(|pin| **pin == net).take(1).for_each"),
+    ("refused drop counted", BOARD, "let first = columns.min().ok_or(24u16)?;",
+     "let first = columns.min();\n        if first.is_none() {\n            self.counts.iter_mut().skip(1).take(1).for_each(|count| *count += 1);\n"
+     "        }\n        let first = first.ok_or(24u16)?;"),
+    ("density without the last gap", BOARD, "self.counts.iter().copied().max()", "self.counts.iter().rev().skip(1).copied().max()"),
+    ("density without the first gap", BOARD, "self.counts.iter().copied().max()", "self.counts.iter().skip(2).copied().max()"),
+    ("a count past the last gap", BOARD, "self.counts.get(gap)", "self.counts.get(gap).or(self.counts.last())"),
+    ("a count at gap 0", BOARD, "self.counts.get(gap)", "self.counts.get(gap.max(1))"),
+    ("gaps of 16 bits", BOARD, "self.counts.get(gap)", "self.counts.get(gap as u16 as usize)"),
+    ("made-up counts behind a board cleared", CALLS, "    let n = board.counts.len();\n", "    let n = board.counts.len();\n    counts[n..].fill(0);\n"),
 ]
 
 

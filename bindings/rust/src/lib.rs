@@ -17,15 +17,18 @@
 //! ```
 //!
 //! Where many channels are routed, lend one slice that is always enough: [`route`]
-//! says how long it is. A [`Sweep`] is driven column by column and takes late nets.
+//! says how long it is. A [`Sweep`] is driven column by column and takes late nets. On a
+//! [`Board`] nets are added and dropped, and the density is known after each change.
 //!
-//! The library keeps no state, as that of a sweep lies in the [`Sweep`], so calls from
-//! several threads are independent.
+//! The library keeps no state, as that of a sweep lies in the [`Sweep`] and that of a
+//! board in the [`Board`], so calls from several threads are independent.
 
+mod board;
 pub mod raw;
 mod refusal;
 mod sweep;
 
+pub use board::Board;
 pub use refusal::Refusal;
 pub use sweep::{Side, Sweep, Terminal};
 
@@ -111,7 +114,7 @@ impl NetRecord {
 fn accept<T>(number: u16, value: T) -> Result<T, Refusal> {
     match number {
         0 => Ok(value),
-        _ => Err(Refusal::from_number(number).expect("the library's numbers are 0 to 23")),
+        _ => Err(Refusal::from_number(number).expect("the library's numbers are 0 to 24")),
     }
 }
 

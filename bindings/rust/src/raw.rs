@@ -201,6 +201,80 @@ impl State {
     }
 }
 
+/// A board, `gaxwethi_board` of the header. Every board may be lent: what is promised
+/// holds for one that the call before left, but each call ends on any, and a refused
+/// change leaves any.
+#[repr(C)]
+#[derive(Clone, Debug, PartialEq, Eq)]
+pub struct Board {
+    pub columns: usize,
+    pub top: [u16; 256],
+    pub bottom: [u16; 256],
+    pub counts: [u16; 256],
+}
+
+impl Default for Board {
+    /// Zeros, as for the channel without columns.
+    fn default() -> Board {
+        Board::filled(0, 0, 0)
+    }
+}
+
+impl Board {
+    /// A made-up board: its columns, the number at all terminals, the count at all gaps.
+    pub fn filled(columns: usize, number: u16, count: u16) -> Board {
+        Board { columns, top: [number; 256], bottom: [number; 256], counts: [count; 256] }
+    }
+
+    /// `gaxwethi_new_board` of the header.
+    pub fn start(&mut self, n: usize) -> u16 {
+        let [top, bottom, counts] =
+            [&mut self.top, &mut self.bottom, &mut self.counts].map(|row| row.as_mut_ptr());
+        // SAFETY: the members have the sizes that the library expects. So it is below too.
+        unsafe { gaxwethi_board_start(n, &mut self.columns, top, bottom, counts) }
+    }
+
+    /// `gaxwethi_add_net` of the header.
+    pub fn add(&mut self, net: u16, column1: usize, side1: u16, column2: usize, side2: u16) -> u16 {
+        unsafe {
+            gaxwethi_board_add(
+                self.columns,
+                self.top.as_mut_ptr(),
+                self.bottom.as_mut_ptr(),
+                self.counts.as_mut_ptr(),
+                net,
+                column1,
+                side1,
+                column2,
+                side2,
+            )
+        }
+    }
+
+    /// `gaxwethi_drop_net` of the header.
+    pub fn drop(&mut self, net: u16) -> u16 {
+        unsafe {
+            gaxwethi_board_drop(
+                self.columns,
+                self.top.as_mut_ptr(),
+                self.bottom.as_mut_ptr(),
+                self.counts.as_mut_ptr(),
+                net,
+            )
+        }
+    }
+
+    /// `gaxwethi_density_of_board` of the header.
+    pub fn density(&self) -> u16 {
+        unsafe { gaxwethi_board_density(self.columns, self.counts.as_ptr()) }
+    }
+
+    /// `gaxwethi_count_at_gap` of the header.
+    pub fn count(&self, gap: usize) -> u16 {
+        unsafe { gaxwethi_board_count(self.columns, self.counts.as_ptr(), gap) }
+    }
+}
+
 extern "C" {
     pub fn gaxwethi_density(top: *const u16, n: usize, bottom: *const u16, m: usize) -> Density;
 
@@ -314,4 +388,36 @@ extern "C" {
         column2: usize,
         side2: u16,
     ) -> u16;
+
+    pub fn gaxwethi_board_start(
+        n: usize,
+        columns: *mut usize,
+        top: *mut u16,
+        bottom: *mut u16,
+        counts: *mut u16,
+    ) -> u16;
+
+    pub fn gaxwethi_board_add(
+        columns: usize,
+        top: *mut u16,
+        bottom: *mut u16,
+        counts: *mut u16,
+        net: u16,
+        column1: usize,
+        side1: u16,
+        column2: usize,
+        side2: u16,
+    ) -> u16;
+
+    pub fn gaxwethi_board_drop(
+        columns: usize,
+        top: *mut u16,
+        bottom: *mut u16,
+        counts: *mut u16,
+        net: u16,
+    ) -> u16;
+
+    pub fn gaxwethi_board_density(columns: usize, counts: *const u16) -> u16;
+
+    pub fn gaxwethi_board_count(columns: usize, counts: *const u16, gap: usize) -> u16;
 }

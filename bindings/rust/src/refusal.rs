@@ -14,9 +14,11 @@ pub enum Refusal {
     RecordBody = 3,
     /// The rows differ in length.
     RowLengths = 4,
-    /// The channel has over 256 columns, or over 64 for a listing.
+    /// The channel, or the [`Board`](crate::Board), has over 256 columns, or over 64 for
+    /// a listing.
     TooManyColumns = 5,
-    /// A row has a number over 256, or that of a late net is 0 or over 256.
+    /// A row has a number over 256, or that of a net that is placed, added or dropped is 0
+    /// or over 256.
     NetNumber = 6,
     /// A net has a single pin; in a [`Sweep`](crate::Sweep), not exactly two.
     SinglePin = 7,
@@ -49,18 +51,20 @@ pub enum Refusal {
     /// There is a wire at a terminal without a pin, or at an edge past the
     /// channel's columns; the place is its position.
     UnpinnedWire = 20,
-    /// The number of a late net is in use.
+    /// The number of a late net, or of one added to a [`Board`](crate::Board), is in use.
     NumberInUse = 21,
-    /// A terminal of a late net has a pin, is not right of the last drawn column,
-    /// lies outside the channel, or is that of its other pin.
+    /// A terminal of such a net has a pin, is not right of the last drawn column, lies
+    /// outside the channel, or is that of its other pin.
     TerminalTaken = 22,
     /// With a late net the density would be over the tracks.
     OverTracks = 23,
+    /// The net to be dropped is not on the [`Board`](crate::Board).
+    AbsentNet = 24,
 }
 
 impl Refusal {
     /// All refusals in the order of their numbers.
-    pub const ALL: [Refusal; 23] = [
+    pub const ALL: [Refusal; 24] = [
         Refusal::RecordLength,
         Refusal::RecordKind,
         Refusal::RecordBody,
@@ -84,14 +88,15 @@ impl Refusal {
         Refusal::NumberInUse,
         Refusal::TerminalTaken,
         Refusal::OverTracks,
+        Refusal::AbsentNet,
     ];
 
-    /// The papers' number, 1 to 23.
+    /// The papers' number, 1 to 24.
     pub fn number(self) -> u16 {
         self as u16
     }
 
-    /// The refusal of a number; `None` for 0, which is acceptance, and over 23.
+    /// The refusal of a number; `None` for 0, which is acceptance, and over 24.
     pub fn from_number(number: u16) -> Option<Refusal> {
         let at = (number as usize).checked_sub(1)?;
         Self::ALL.get(at).copied()
@@ -121,9 +126,10 @@ impl fmt::Display for Refusal {
             Refusal::OutputTooShort => "output slice too short",
             Refusal::MiswiredPin => "a pin with another net's wire",
             Refusal::UnpinnedWire => "a wire at a terminal without a pin",
-            Refusal::NumberInUse => "a late net's number in use",
-            Refusal::TerminalTaken => "a late net's terminal not free",
+            Refusal::NumberInUse => "a new net's number in use",
+            Refusal::TerminalTaken => "a new net's terminal not free",
             Refusal::OverTracks => "a late net over the tracks",
+            Refusal::AbsentNet => "no such net to drop",
         };
         write!(f, "refused {}: {reason}", self.number())
     }

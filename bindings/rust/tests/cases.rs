@@ -283,6 +283,6 @@ fn numbers_of_refusals() {
         assert_eq!(Refusal::from_number(number), Some(refusal));
     }
     assert_eq!(Refusal::from_number(0), None);
-    assert_eq!(Refusal::ALL.len(), 23);
-    assert_eq!(Refusal::from_number(24), None);
+    assert_eq!(Refusal::ALL.len(), 24);
+    assert_eq!(Refusal::from_number(25), None);
 }

@@ -1,6 +1,7 @@
 //! The same algorithms in idiomatic Rust: what the library's speed is measured
 //! against, and what stands in for the library when the trials are tried out.
 
+pub mod board;
 pub mod check;
 pub mod list;
 pub mod record;
@@ -9,6 +10,7 @@ pub mod route;
 pub mod rows;
 mod set;
 
+pub use board::Board;
 pub use check::{check, column, Checked};
 pub use list::list;
 pub use record::canonical;

@@ -12,7 +12,7 @@ pub struct Case {
 }
 
 /// A random number under a bound (xorshift).
-fn under(state: &mut u64, bound: usize) -> usize {
+pub fn under(state: &mut u64, bound: usize) -> usize {
     *state ^= *state << 13;
     *state ^= *state >> 7;
     *state ^= *state << 17;

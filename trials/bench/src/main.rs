@@ -1,12 +1,13 @@
 //! Times the library beside idiomatic Rust of the same algorithm and beside a
 //! plain fill of the layout, in one run, and prints a table in Markdown; then its
-//! driven sweep beside its own routing in one call.
+//! driven sweep beside its own routing in one call, and its boards beside Rust.
 //!
 //! `bench [REPETITIONS [COLUMNS]]`: each repetition times every side in turn, so
 //! that a disturbance of the machine falls on all of them; the medians count. A
 //! sample goes over different channels with COLUMNS columns in all, as a planner
 //! does; with 256, each sample repeats one channel of 256 columns.
 
+mod boards;
 mod channels;
 
 use channels::{cases, Case};
@@ -15,8 +16,8 @@ use gaxwethi::NetRecord;
 use std::hint::black_box;
 use std::time::Instant;
 
-/// Some work on a channel; what it returns says that the sides agree.
-type Side<'a> = Box<dyn FnMut(&Case) -> usize + 'a>;
+/// Some work on a channel, or on another case; what it returns says that the sides agree.
+type Side<'a, C = Case> = Box<dyn FnMut(&C) -> usize + 'a>;
 
 /// A measurement of some channels, with that many repetitions: a time for each side.
 type Measure = fn(&[Case], usize) -> Vec<f64>;
@@ -43,7 +44,7 @@ const COLUMNS: usize = 16384;
 const SAMPLE: f64 = 0.0001;
 
 /// Seconds for each channel of some passes over the cases.
-fn sample(side: &mut Side, cases: &[Case], passes: usize) -> f64 {
+fn sample<C>(side: &mut Side<C>, cases: &[C], passes: usize) -> f64 {
     let start = Instant::now();
     for _ in 0..passes {
         for case in cases {
@@ -54,7 +55,7 @@ fn sample(side: &mut Side, cases: &[Case], passes: usize) -> f64 {
 }
 
 /// The median time of each side for each channel of a group.
-fn of_group(sides: &mut [Side], group: &[Case], repetitions: usize) -> Vec<f64> {
+fn of_group<C>(sides: &mut [Side<C>], group: &[C], repetitions: usize) -> Vec<f64> {
     let mut passes = Vec::new();
     for side in sides.iter_mut() {
         let once = (0..9).map(|_| sample(side, group, 1)).fold(f64::MAX, f64::min);
@@ -75,7 +76,7 @@ fn of_group(sides: &mut [Side], group: &[Case], repetitions: usize) -> Vec<f64> 
 }
 
 /// The time of each side: the mean of its medians over groups of channels.
-fn medians(mut sides: Vec<Side>, cases: &[Case], repetitions: usize) -> Vec<f64> {
+fn medians<C>(mut sides: Vec<Side<C>>, cases: &[C], repetitions: usize) -> Vec<f64> {
     for case in cases {
         assert_eq!(sides[0](case), sides[1](case), "the sides disagree");
     }
@@ -276,4 +277,5 @@ fn main() {
         }
     }
     print_driven(columns, repetitions);
+    boards::print(repetitions);
 }

@@ -1,5 +1,6 @@
 //! One trial: every call on one random channel, through both routers.
 
+use crate::boards;
 use crate::damage::{self, Drawing};
 use crate::library;
 use crate::random::{self, Channel, Rng};
@@ -12,8 +13,8 @@ use std::fmt::Debug;
 pub struct Tally {
     pub channels: u64,
     pub calls: u64,
-    /// How often each number was the answer, 0 to 23.
-    pub numbers: [u64; 24],
+    /// How often each number was the answer, 0 to 24.
+    pub numbers: [u64; 25],
     /// How often the checker refused each kind of wrong pin edge.
     pub pin_faults: [u64; PIN_FAULTS.len()],
     /// How many channels each sweep draws: two-pin, three-pin, many-pin.
@@ -23,6 +24,8 @@ pub struct Tally {
     pub beginnings: [[u64; 2]; 3],
     /// How often each kind of call of a driven sweep came up.
     pub driven: [u64; KINDS.len()],
+    /// How often each kind of what happens on a board came up.
+    pub boards: [u64; boards::KINDS.len()],
     pub differences: u64,
     /// The first differences, in words.
     pub shown: Vec<String>,
@@ -76,11 +79,12 @@ impl Tally {
         Tally {
             channels: 0,
             calls: 0,
-            numbers: [0; 24],
+            numbers: [0; 25],
             pin_faults: [0; PIN_FAULTS.len()],
             sweeps: [0; 3],
             beginnings: [[0; 2]; 3],
             driven: [0; KINDS.len()],
+            boards: [0; boards::KINDS.len()],
             differences: 0,
             shown: Vec::new(),
             text: vec![MARK; TEXT].into_boxed_slice().try_into().unwrap(),
@@ -97,6 +101,7 @@ impl Tally {
         self.pin_faults.iter_mut().zip(other.pin_faults).for_each(|(a, b)| *a += b);
         self.sweeps.iter_mut().zip(other.sweeps).for_each(|(a, b)| *a += b);
         self.driven.iter_mut().zip(other.driven).for_each(|(a, b)| *a += b);
+        self.boards.iter_mut().zip(other.boards).for_each(|(a, b)| *a += b);
         let theirs = other.beginnings.as_flattened();
         self.beginnings.as_flattened_mut().iter_mut().zip(theirs).for_each(|(a, b)| *a += b);
     }
@@ -148,6 +153,10 @@ impl Tally {
         self.driven(rng, &c);
         let roomy = random::roomy(rng);
         self.driven(rng, &roomy);
+        if rng.under(3) == 0 {
+            self.board(rng);
+            self.made_up_board(rng);
+        }
     }
 
     /// Density and need.

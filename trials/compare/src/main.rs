@@ -3,6 +3,7 @@
 //! calls hand back or write. The run is the same for the same seed on any
 //! number of cores. Status 1 says that something differed.
 
+mod boards;
 mod compare;
 mod damage;
 mod library;
@@ -67,6 +68,13 @@ fn main() -> ExitCode {
         KINDS.iter().zip(all.driven).map(|(kind, count)| format!("{kind}: {count}")).collect();
     println!("driven sweeps: {}", driven.join(", "));
     let undriven = all.driven.iter().filter(|&&count| count == 0).count();
+    let boards: Vec<String> = boards::KINDS
+        .iter()
+        .zip(all.boards)
+        .map(|(kind, count)| format!("{kind}: {count}"))
+        .collect();
+    println!("boards: {}", boards.join(", "));
+    let unchanged = all.boards.iter().filter(|&&count| count == 0).count();
     println!(
         "seed {seed}: {} channels, {} answers compared, {} differences, {:.0} s",
         all.channels,
@@ -75,7 +83,7 @@ fn main() -> ExitCode {
         start.elapsed().as_secs_f64()
     );
     if untried > 0 {
-        println!("{untried} of the numbers 0 to 23 never came up: try more channels");
+        println!("{untried} of the numbers 0 to 24 never came up: try more channels");
     }
     if unseen > 0 {
         println!("{unseen} of the wrong pin edges never came up: try more channels");
@@ -88,6 +96,9 @@ fn main() -> ExitCode {
     if undriven > 0 {
         println!("{undriven} of the kinds in driven sweeps never came up: try more channels");
     }
-    let untold = untried > 0 || unseen > 0 || !told || undriven > 0;
+    if unchanged > 0 {
+        println!("{unchanged} of the kinds on boards never came up: try more channels");
+    }
+    let untold = untried > 0 || unseen > 0 || !told || undriven > 0 || unchanged > 0;
     ExitCode::from((all.differences > 0 || untold) as u8)
 }

@@ -67,7 +67,7 @@ pub fn small(mut index: u64) -> Option<Channel> {
 }
 
 /// A number of columns: mostly few, now and then up to 256.
-fn columns(rng: &mut Rng) -> usize {
+pub fn columns(rng: &mut Rng) -> usize {
     match rng.under(1000) {
         0..100 => rng.under(4),
         100..600 => rng.under(17),

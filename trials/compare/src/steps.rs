@@ -112,8 +112,9 @@ impl Tally {
 
     /// A late net, or one that is refused.
     fn late_net(&mut self, rng: &mut Rng, c: &Channel, sweep: &mut Sweep) {
-        let (net, terminals) = late_net(rng, &sweep.ours);
-        let (before, reason) = (sweep.theirs.clone(), reason(&sweep.ours, terminals));
+        let (rows, drawn) = (<[_; 2]>::from(sweep.ours.rows()), sweep.ours.drawn());
+        let (net, terminals) = new_net(rng, rows, drawn);
+        let (before, reason) = (sweep.theirs.clone(), reason(rows, drawn, terminals));
         let number = sweep.ours.place(net, terminals);
         let [one, other] = terminals;
         let (side1, side2) = (one.side as u16, other.side as u16);
@@ -189,9 +190,9 @@ fn made_up(rng: &mut Rng) -> State {
     State::filled(size, rng.pick(&[0, 1, 256, u16::MAX]), rng.pick(&[0, 2, u64::MAX]))
 }
 
-/// A late net: mostly one with a free number at two free terminals, often close together.
-fn late_net(rng: &mut Rng, sweep: &Steps) -> (u16, [Terminal; 2]) {
-    let (rows, drawn) = (<[_; 2]>::from(sweep.rows()), sweep.drawn());
+/// A new net beside those in the rows, of which some columns are drawn: mostly one with a
+/// free number at two free terminals, often close together.
+pub fn new_net(rng: &mut Rng, rows: [&[u16]; 2], drawn: usize) -> (u16, [Terminal; 2]) {
     let n = rows[0].len();
     let open: Vec<Terminal> = (drawn + 1..=n)
         .flat_map(|column| [0, 1].map(|side| Terminal { column, side }))
@@ -220,11 +221,11 @@ fn late_net(rng: &mut Rng, sweep: &Steps) -> (u16, [Terminal; 2]) {
             _ => *one = anywhere(rng),
         }
     }
-    (late_number(rng, &rows.concat()), terminals)
+    (new_number(rng, &rows.concat()), terminals)
 }
 
-/// The number of a late net beside the pins of a channel: mostly one that is free.
-fn late_number(rng: &mut Rng, pins: &[u16]) -> u16 {
+/// The number of a new net beside the pins of a channel: mostly one that is free.
+fn new_number(rng: &mut Rng, pins: &[u16]) -> u16 {
     match rng.under(20) {
         0 => rng.pick(&[0, 257, 258, 512, 32_768, 65_535]),
         1 if !pins.is_empty() => rng.pick(pins),
@@ -237,8 +238,7 @@ fn late_number(rng: &mut Rng, pins: &[u16]) -> u16 {
 }
 
 /// Why two terminals are not allowed, if there is one reason alone.
-fn reason(sweep: &Steps, terminals: [Terminal; 2]) -> Option<&'static str> {
-    let (rows, drawn) = (<[_; 2]>::from(sweep.rows()), sweep.drawn());
+pub fn reason(rows: [&[u16]; 2], drawn: usize, terminals: [Terminal; 2]) -> Option<&'static str> {
     let mut reasons = Vec::new();
     for Terminal { column, side } in terminals {
         let pin = rows.get(side).and_then(|row| row.get(column.wrapping_sub(1)));

@@ -1,5 +1,5 @@
 //! A second knock-knee channel router, checker, net report, writer of canonical
-//! records and sweep that is driven column by column.
+//! records, sweep that is driven column by column and channel on the drawing board.
 //!
 //! It follows documents 01 and 02, and for nets of two or three pins the choices
 //! in docs/THREE-PIN.md, and shares no code with the library. It keeps to their
@@ -7,17 +7,21 @@
 //! of nets on the tracks, for nets of two or three pins with a list of pairs, and
 //! every question about it is answered by looking through these lists.
 
+pub mod board;
 pub mod check;
+pub mod placing;
 pub mod record;
 pub mod report;
 pub mod rows;
 pub mod sweep;
 
+pub use board::Board;
 pub use check::{check, column};
+pub use placing::Terminal;
 pub use record::{canonical, list, printed};
 pub use report::{report, report_drawing};
 pub use rows::{density, formula};
-pub use sweep::steps::{Started, Stepped, Steps, Terminal};
+pub use sweep::steps::{Started, Stepped, Steps};
 pub use sweep::{need, route};
 
 /// The most columns that a library call takes.

@@ -87,12 +87,14 @@ pub fn nets(top: &[u16], bottom: &[u16], most: usize) -> Result<Nets, u16> {
     Ok(nets)
 }
 
+/// The count of nets with a pin in the columns up to a gap and one after it.
+pub fn crossing(nets: &Nets, gap: usize) -> usize {
+    nets.numbers().filter(|&net| nets.first(net) <= gap && nets.last(net) > gap).count()
+}
+
 /// The largest count, over the gaps, of nets with pins on both sides.
 pub fn density_of(nets: &Nets, n: usize) -> usize {
-    let crossing = |gap: usize| {
-        nets.numbers().filter(|&net| nets.first(net) <= gap && nets.last(net) > gap).count()
-    };
-    (1..n).map(crossing).max().unwrap_or(0)
+    (1..n).map(|gap| crossing(nets, gap)).max().unwrap_or(0)
 }
 
 /// The tracks of a channel of density d.

@@ -1,7 +1,7 @@
 //! The baseline behind the library's C calls: it stands in for the library
 //! where the trials themselves are tried out on planted faults.
 
-use baseline::State;
+use baseline::{Board, State};
 use std::panic::{catch_unwind, AssertUnwindSafe};
 use std::slice::{from_raw_parts, from_raw_parts_mut};
 
@@ -311,4 +311,88 @@ pub unsafe extern "C" fn gaxwethi_sweep_place(
     [*upper, *lower] = state.rows;
     (*first, *last) = (state.first, state.last);
     answer.err().unwrap_or(0)
+}
+
+/// The board in the lent arrays; made-up columns are cut.
+fn lent(columns: usize, top: &[u16; 256], bottom: &[u16; 256], counts: &[u16; 256]) -> Board {
+    let n = columns.min(256);
+    Board { rows: [top[..n].into(), bottom[..n].into()], counts: counts[..n].into() }
+}
+
+/// Writes a board into the lent arrays; what lies behind it stays.
+fn keep(board: &Board, top: &mut [u16; 256], bottom: &mut [u16; 256], counts: &mut [u16; 256]) {
+    let n = board.counts.len();
+    top[..n].copy_from_slice(&board.rows[0]);
+    bottom[..n].copy_from_slice(&board.rows[1]);
+    counts[..n].copy_from_slice(&board.counts);
+}
+
+/// # Safety
+#[no_mangle]
+pub unsafe extern "C" fn gaxwethi_board_start(
+    n: usize,
+    columns: &mut usize,
+    top: &mut [u16; 256],
+    bottom: &mut [u16; 256],
+    counts: &mut [u16; 256],
+) -> u16 {
+    let (number, board) = match guarded(|| Board::new(n)) {
+        Ok(board) => (0, board),
+        Err(number) => (number, Board::default()),
+    };
+    (*columns, *top, *bottom, *counts) = (board.counts.len(), [0; 256], [0; 256], [0; 256]);
+    keep(&board, top, bottom, counts);
+    number
+}
+
+/// # Safety
+#[no_mangle]
+pub unsafe extern "C" fn gaxwethi_board_add(
+    columns: usize,
+    top: &mut [u16; 256],
+    bottom: &mut [u16; 256],
+    counts: &mut [u16; 256],
+    net: u16,
+    column1: usize,
+    side1: u16,
+    column2: usize,
+    side2: u16,
+) -> u16 {
+    let mut board = lent(columns, top, bottom, counts);
+    let answer = guarded(|| board.add(net, (column1, side1), (column2, side2)));
+    keep(&board, top, bottom, counts);
+    answer.err().unwrap_or(0)
+}
+
+/// # Safety
+#[no_mangle]
+pub unsafe extern "C" fn gaxwethi_board_drop(
+    columns: usize,
+    top: &mut [u16; 256],
+    bottom: &mut [u16; 256],
+    counts: &mut [u16; 256],
+    net: u16,
+) -> u16 {
+    let mut board = lent(columns, top, bottom, counts);
+    let answer = guarded(|| board.drop(net));
+    keep(&board, top, bottom, counts);
+    answer.err().unwrap_or(0)
+}
+
+/// # Safety
+#[no_mangle]
+pub unsafe extern "C" fn gaxwethi_board_density(columns: usize, counts: &[u16; 256]) -> u16 {
+    let board = lent(columns, &[0; 256], &[0; 256], counts);
+    guarded(|| Ok(board.density())).unwrap_or(PANIC)
+}
+
+/// # Safety
+#[no_mangle]
+pub unsafe extern "C" fn gaxwethi_board_count(
+    columns: usize,
+    counts: &[u16; 256],
+    gap: usize,
+) -> u16 {
+    let board = lent(columns, &[0; 256], &[0; 256], counts);
+    guarded(|| Ok(board.count(gap))).unwrap_or(PANIC)
 }

@@ -1,11 +1,11 @@
-//! Compares the second router, checker, net report, canonical record and sweep column
-//! by column with files of worked cases: `vectors FILE ...`, where the names end in
-//! routes.txt, needs.txt, checks.txt, listings.txt, reports.txt, long.txt, records.txt,
-//! pairs.txt, steps.txt or short.txt. A case ends at an empty line; cases of games are
-//! skipped.
+//! Compares the second router, checker, net report, canonical record, sweep column by
+//! column and drawing board with files of worked cases: `vectors FILE ...`, where the
+//! names end in routes.txt, needs.txt, checks.txt, listings.txt, reports.txt, long.txt,
+//! records.txt, pairs.txt, steps.txt, short.txt or boards.txt. A case ends at an empty
+//! line; cases of games are skipped.
 
 use second::rows::Family;
-use second::{Checked, Started, Stepped, Steps, Terminal, MOST_COLUMNS, MOST_NETS};
+use second::{Board, Checked, Started, Stepped, Steps, Terminal, MOST_COLUMNS, MOST_NETS};
 use std::process::ExitCode;
 use std::str::FromStr;
 
@@ -291,6 +291,32 @@ fn steps_agree(case: &[&str]) -> bool {
         && routed == drawn
 }
 
+/// Whether a board's answer agrees; a refused change leaves it as it was.
+fn call_agrees(board: &mut Board, line: &str) -> bool {
+    let before = board.clone();
+    let given = numbers::<u16>(line);
+    let (got, wanted) = match (line.split(' ').next(), &given[..]) {
+        (Some("density"), &[density]) => return board.density() == density,
+        (Some("count"), &[gap, count]) => return board.count(gap.into()) == count,
+        (Some("drop"), &[net, number]) => (board.drop(net), number),
+        (Some("add"), &[net, column1, side1, column2, side2, number]) => {
+            (board.add(net, column1.into(), side1, column2.into(), side2), number)
+        }
+        _ => panic!("no call: {line:?}"),
+    };
+    got == wanted && (got == 0 || *board == before)
+}
+
+/// Whether a board with the changes of a case gives its answers.
+fn board_agrees(case: &[&str]) -> bool {
+    let start = values::<u16>(case, "board");
+    let (number, mut board) = Board::new(start[0].into());
+    let empty = vec![0; if number == 0 { start[0].into() } else { 0 }];
+    number == start[1]
+        && board.rows() == (&empty, &empty)
+        && case[1..].iter().all(|line| call_agrees(&mut board, line))
+}
+
 /// Whether a case of a file agrees, by the end of the file's name.
 fn kind(file: &str) -> fn(&[&str]) -> bool {
     match file {
@@ -302,6 +328,7 @@ fn kind(file: &str) -> fn(&[&str]) -> bool {
         _ if file.ends_with("records.txt") => record_agrees,
         _ if file.ends_with("pairs.txt") => pair_agrees,
         _ if file.ends_with("steps.txt") || file.ends_with("short.txt") => steps_agree,
+        _ if file.ends_with("boards.txt") => board_agrees,
         _ => panic!("{file}: no kind of worked cases has this name"),
     }
 }

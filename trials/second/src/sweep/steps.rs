@@ -2,15 +2,9 @@
 //! late nets.
 
 use super::Sweep;
+use crate::placing::{placed, Rows, Terminal};
 use crate::rows::{density_of, nets, Nets};
-use crate::{MOST_COLUMNS, MOST_NETS};
-
-/// A terminal: the column, counted from 1, and the side, 0 for top and 1 for bottom.
-#[derive(Clone, Copy, Debug, PartialEq, Eq)]
-pub struct Terminal {
-    pub column: usize,
-    pub side: usize,
-}
+use crate::MOST_COLUMNS;
 
 /// The answer of a start; the slice is the length that every step needs.
 #[derive(Clone, Copy, Debug, Default, PartialEq, Eq)]
@@ -32,7 +26,7 @@ pub struct Stepped {
 #[derive(Clone, Debug, Default, PartialEq, Eq)]
 pub struct Steps {
     /// The top and the bottom row, with the late nets so far.
-    rows: [Vec<u16>; 2],
+    rows: Rows,
     tracks: usize,
     drawn: usize,
     /// The net on each track in the gap right of the last drawn column.
@@ -71,19 +65,10 @@ impl Steps {
 
     /// Places a late net: 0, or the refusal's number. A refused net changes nothing.
     pub fn place(&mut self, net: u16, terminals: [Terminal; 2]) -> u16 {
-        if net == 0 || net as usize > MOST_NETS {
-            return 6;
-        }
-        if self.rows.iter().flatten().any(|&other| other == net) {
-            return 21;
-        }
-        if terminals[0] == terminals[1] || !terminals.iter().all(|&place| self.open(place)) {
-            return 22;
-        }
-        let mut rows = self.rows.clone();
-        for Terminal { column, side } in terminals {
-            rows[side][column - 1] = net;
-        }
+        let rows = match placed(&self.rows, self.drawn, net, terminals) {
+            Ok(rows) => rows,
+            Err(number) => return number,
+        };
         if density_of(&Nets::of(&rows[0], &rows[1]), rows[0].len()) > self.tracks {
             return 23;
         }
@@ -114,12 +99,6 @@ impl Steps {
     /// The slice length of document 01's formula.
     fn slice(&self) -> usize {
         (self.rows[0].len() + self.tracks / 2) * (2 * self.tracks + 1)
-    }
-
-    /// Whether a late net may have a pin at a terminal.
-    fn open(&self, Terminal { column, side }: Terminal) -> bool {
-        let row = self.rows.get(side);
-        column > self.drawn && row.and_then(|row| row.get(column - 1)) == Some(&0)
     }
 
     /// The pin in the next column of a row; there is none in an added column.
