@@ -5,14 +5,15 @@ use mathlib.Core.Logic.{_⊎_, ⊎-elim, _≢_}
 use mathlib.Core.Bool.{Bool, true, false, _&&_}
 use mathlib.Core.List.{List, _++_}
 use native.Mathlib.Omega.{arith}
+use native.Mathlib.Decide.{decLt}
 use lib.Dec.{ltb}
-use lib.ListN.{length, getD, replicate, length-replicate, replicate-append-replicate, drop-of-length-le}
+use lib.ListN.{length, getD, replicate, length-replicate, replicate-append-replicate, drop-of-length-le, List·getD-eq-default}
 use lib.Seq.{ext-getD}
 use Rattle.grid.specs.Channel.{pick, bit, times, count, pins, left, right, isOpen, openAt, largest, density}
 use Rattle.grid.specs.Places.{padded, noRow}
-use Rattle.grid.proofs.Tests.{lt-ltb, le-ltb, and-none, Below, above, belowBy}
+use Rattle.grid.proofs.Tests.{lt-ltb, le-ltb, and-none, Below, below, above, belowBy}
 use Rattle.grid.proofs.Counting.{none-times, zeros, sum-zero}
-use Rattle.grid.proofs.Rows.{left-right, open-sides}
+use Rattle.grid.proofs.Rows.{left-right, open-sides, open-density}
 use Rattle.grid.proofs.Tables.{length-from, from-at}
 use Rattle.grid.proofs.OpenNets.{none-open}
 use Rattle.board.specs.Changes.{Channel, emptyChannel}
@@ -88,6 +89,40 @@ gap-count ch s gap = go (ltb 0 gap) (ltb gap (length (ch .top))) (belowBy 0 gap)
     go true true a b = refl
     go true false a (above l) = sym (open-past (ch .top) (ch .bottom) gap l (omega arith))
     go false w (above l) b = let z : gap ≡ 0 = omega arith in sym (ap (openAt (ch .top) (ch .bottom)) z ∙ none-open (ch .top) (ch .bottom))
+
+-- A CHANNEL'S DENSITY is the largest of its counts
+
+-- it is one of them
+largest-one : (top bottom : List ℕ) (k : ℕ) → (c : ℕ) × (c ≤ k) × (openAt top bottom c ≡ largest top bottom k)
+unfolding largest
+largest-one top bottom zero = (0, omega arith, none-open top bottom)
+largest-one top bottom (suc k) = go (decLt (openAt top bottom (suc k)) (largest top bottom k)) (largest-one top bottom k)
+  where
+    go : Dec (openAt top bottom (suc k) < largest top bottom k) → (c : ℕ) × (c ≤ k) × (openAt top bottom c ≡ largest top bottom k)
+        → (c : ℕ) × (c ≤ suc k) × (openAt top bottom c ≡ max (largest top bottom k) (openAt top bottom (suc k)))
+    go (yes h) (c, p, e) = (c, omega arith, omega (arith, e))
+    go (no h) r = (suc k, omega arith, omega arith)
+
+pub density-stored : (ch : Channel) → length (ch .top) ≤ 256 → (g : ℕ) × (getD (countsOf ch) g 0 ≡ density (ch .top) (ch .bottom))
+unfolding density
+density-stored ch h =
+    let (g, p, e) = largest-one (ch .top) (ch .bottom) (length (ch .top) - 1) in
+    (g, counts-at ch g (omega arith) ∙ e)
+
+-- and none is more
+pub density-above : (ch : Channel) → length (ch .top) ≡ length (ch .bottom) → (g : ℕ) → getD (countsOf ch) g 0 ≤ density (ch .top) (ch .bottom)
+density-above ch s g = go (decLt g 256)
+  where
+    inside : (q : Bool) → Below 0 g q → (r : Bool) → Below g (length (ch .top)) r
+        → pick (q && r) (openAt (ch .top) (ch .bottom) g) 0 ≤ density (ch .top) (ch .bottom)
+    inside true (below p) true (below l) = open-density (ch .top) (ch .bottom) g (omega arith) p (omega arith)
+    inside true p false l = omega arith
+    inside false p r l = omega arith
+
+    go : Dec (g < 256) → getD (countsOf ch) g 0 ≤ density (ch .top) (ch .bottom)
+    go (yes h) =
+        omega (arith, counts-at ch g h, gap-count ch s g, inside (ltb 0 g) (belowBy 0 g) (ltb g (length (ch .top))) (belowBy g (length (ch .top))))
+    go (no h) = omega (arith, List·getD-eq-default (countsOf ch) 0 {n = g} (omega (arith, counts-length ch)))
 
 -- THE BOARD OF A CHANNEL
 

@@ -1,10 +1,10 @@
 -- A channel on the drawing board is as document 02, Job 11, asks. Assumes nothing.
 use Prim.Native.Nat.{ℕ, _<_}
-use mathlib.Core.Path.{_≡_, ap, subst, _∙_}
+use mathlib.Core.Path.{_≡_, sym, ap, subst, _∙_}
 use mathlib.Core.List.{List}
 use lib.Dec.{eqb}
 use lib.ListN.{length, getD}
-use Rattle.grid.specs.Channel.{pins, openAt}
+use Rattle.grid.specs.Channel.{pins, openAt, density}
 use Rattle.grid.proofs.Tests.{eqb-true, eqb-false}
 use Rattle.grid.proofs.Answers.{no-later}
 use Rattle.grid.proofs.Rows.{rows-fit}
@@ -13,9 +13,9 @@ use Rattle.board.specs.Changes.{Channel, Change, Add, Drop, dropRefused, change
 use Rattle.board.specs.Board.{Board, boardOf, StandsFor, startChannel, LeadsTo}
 use Rattle.board.proofs.Channels.{TwoPins, start-columns, start-same, start-short, start-pins, start-two-pins, change-refused, dropped-pins, used-again}
 use Rattle.board.proofs.Channels.{added-pins, added-dropped, changes-two-pins, changes-columns, changes-stand}
-use Rattle.board.proofs.Stored.{counts-at, counts-of, gap-count, gap-outside}
+use Rattle.board.proofs.Stored.{counts-at, counts-of, gap-count, gap-outside, density-stored, density-above}
 use Rattle.demands.specs.Table.{First, end, ofAddedNet, ofDroppedNet}
-use Rattle.demands.specs.Boards.{BoardRefuses, TakesChanges, channelAfter, KeepsCounts, OnTheDrawingBoard}
+use Rattle.demands.specs.Boards.{BoardRefuses, TakesChanges, LargestOf, channelAfter, KeepsCounts, OnTheDrawingBoard}
 use Rattle.demands.proofs.Table.{by-test, at-end}
 use Rattle.demands.proofs.Lines.{slice-first}
 use Rattle.demands.proofs.NewNets.{number-line, new-net-lines}
@@ -58,6 +58,12 @@ takes-changes ch t = record {
 stored-counts : (ch : Channel) (y : Board) → StandsFor ch y → (gap : ℕ) → gap < 256 → getD (y .counts) gap 0 ≡ openAt (ch .top) (ch .bottom) gap
 stored-counts ch y s gap h = ap (λ (l : List ℕ). getD l gap 0) (counts-of y ch (s .board)) ∙ counts-at ch gap h
 
+-- whose largest is the channel's density
+largest-is-density : (ch : Channel) (y : Board) → StandsFor ch y → LargestOf (y .counts) (density (ch .top) (ch .bottom))
+largest-is-density ch y s =
+    subst (λ (l : List ℕ). LargestOf l (density (ch .top) (ch .bottom))) (sym (counts-of y ch (s .board)))
+    (record { one = density-stored ch (s .short); most = density-above ch (s .same) })
+
 -- of n columns, whatever the changes
 module _ (n : ℕ) where
   two-pins : (changes : List Change) → TwoPins (channelAfter n changes)
@@ -76,6 +82,7 @@ module _ (n : ℕ) where
     takes = λ changes. takes-changes (channelAfter n changes) (two-pins changes);
     stands = stands;
     counts = λ x y changes e l. stored-counts (channelAfter n changes) y (stands x y changes e l);
+    dense = λ x y changes e l. largest-is-density (channelAfter n changes) y (stands x y changes e l);
   }
 
 -- ALL BOARDS

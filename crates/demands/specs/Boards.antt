@@ -4,7 +4,7 @@ use mathlib.Core.Path.{_≡_}
 use mathlib.Core.Logic.{_≢_, _⊎_}
 use mathlib.Core.List.{List}
 use lib.ListN.{length, getD}
-use Rattle.grid.specs.Channel.{pins, openAt}
+use Rattle.grid.specs.Channel.{pins, openAt, density}
 use Rattle.grid.specs.Refusals.{ifAccepted}
 use Rattle.board.specs.Changes.{Channel, Change, Add, Drop, changeRefused, afterChange, afterChanges}
 use Rattle.board.specs.Board.{Board, boardOf, StandsFor, boardRefused, startChannel, gapCount, LeadsTo}
@@ -42,6 +42,11 @@ pub record TakesChanges (ch : Channel) : Type 0 where
   pub counts : (gap : ℕ) → gapCount ch gap ≡ openAt (ch .top) (ch .bottom) gap
   pub outside : (gap : ℕ) → (gap ≡ 0) ⊎ (length (ch .top) ≤ gap) → gapCount ch gap ≡ 0
 
+-- d is the largest of some numbers
+pub record LargestOf (numbers : List ℕ) (d : ℕ) : Type 0 where
+  pub one : (i : ℕ) × (getD numbers i 0 ≡ d)
+  pub most : (i : ℕ) → getD numbers i 0 ≤ d
+
 -- A BOARD of n columns, whatever the changes
 module _ (n : ℕ) where
   -- the channel after a list of changes
@@ -61,6 +66,9 @@ module _ (n : ℕ) where
     -- "After any list of changes, refused ones among them, the stored counts are those of the channel as it then is"
     pub counts : (x y : Board) (changes : List Change) → x ≡ boardOf (startChannel n) → LeadsTo x changes y
         → (gap : ℕ) → gap < 256 → getD (y .counts) gap 0 ≡ openAt (channelAfter changes .top) (channelAfter changes .bottom) gap
+    -- and its density is the largest of them
+    pub dense : (x y : Board) (changes : List Change) → x ≡ boardOf (startChannel n) → LeadsTo x changes y
+        → LargestOf (y .counts) (density (channelAfter changes .top) (channelAfter changes .bottom))
 
 -- ALL BOARDS
 pub record OnTheDrawingBoard : Type 0 where
