@@ -1,4 +1,7 @@
 // The calls for other languages: the libraries' answers as numbers. A slice passes as a pointer and a length in elements.
+pub mod boards;
+pub mod sweeps;
+
 use checker::Fault;
 use grid::DensityCount;
 use grid::Part;
@@ -6,15 +9,11 @@ use report::Drawing;
 use report::NetRecord;
 use router::Length;
 use router::Routed;
-use stepwise::Started;
-use stepwise::Stepped;
 ghost use mathlib.Core.Path.{_≡_};
-ghost use mathlib.Core.Logic.{_≢_};
-ghost use mathlib.Core.List.{List, [], _++_};
-ghost use Prim.Native.Nat.{ℕ, _+_, _*_, _/_, _≤_, _<_};
+ghost use mathlib.Core.List.{[], _++_};
+ghost use Prim.Native.Nat.{_+_, _*_, _/_, _≤_, _<_};
 ghost use lib.ListN.{length, take, drop};
 ghost use Rattle.grid.specs.Answers.{densityCount};
-ghost use Rattle.grid.specs.Channel.{density as channelDensity};
 ghost use Rattle.grid.specs.View.{columnPart};
 ghost use Rattle.router.specs.Answers.{need, answer, written};
 ghost use Rattle.checker.specs.Check.{checked};
@@ -25,9 +24,6 @@ ghost use Rattle.report.specs.Report.{refused, reported, faultOf};
 ghost use Rattle.grid.specs.Refusals.{ifAccepted};
 ghost use Rattle.record.specs.Record.{laid};
 ghost use Rattle.listing.specs.Listing.{listed, refused as listRefused, textOf};
-ghost use Rattle.stepwise.specs.Sweep.{stateOf, Stands, started, Starts, Steps, PlacesLate, KeptIfRefused};
-ghost use Rattle.board.specs.Changes.{Channel, Add, Drop};
-ghost use Rattle.board.specs.Board.{boardWith, boardOf, StandsFor, boardRefused, startChannel, Makes, gapCount};
 ghost use Rattle.canonical.specs.Canonical.{answer as canonicalAnswer, bytesAfter};
 
 #[repr(C)]
@@ -265,214 +261,4 @@ pub extern "C" fn gaxwethi_canonical(
         number: canonical::number_of(a),
         length: canonical::length_of(a),
     }
-}
-
-// Begins a sweep that the caller drives. The state, which the caller holds, is lent to each call of the sweep: three numbers, and arrays that pass as pointers.
-#[no_mangle]
-pub extern "C" fn gaxwethi_sweep_start(
-    top: &[u16],
-    bottom: &[u16],
-    columns: &mut usize,
-    tracks: &mut usize,
-    drawn: &mut usize,
-    upper: &mut [u16; 256],
-    lower: &mut [u16; 256],
-    first: &mut [u16; 257],
-    last: &mut [u16; 257],
-    strands: &mut [u16; 512],
-    free: &mut [u64; 8],
-    low: &mut [u16; 257],
-    high: &mut [u16; 257],
-    many: &mut [u16; 257],
-    extended: &mut [u64; 8],
-) -> Started
-    ensures answer { λ r. ⌜ r ≡ started (now (top .entry)) (now (bottom .entry)) ⌝ }
-    ensures state { λ r. ⌜ Starts (now (top .entry)) (now (bottom .entry)) (stateOf (now (columns .exit)) (now (tracks .exit)) (now (drawn .exit))
-        (now (upper .exit)) (now (lower .exit)) (now (first .exit)) (now (last .exit)) (now (strands .exit)) (now (free .exit)) (now (low .exit))
-        (now (high .exit)) (now (many .exit)) (now (extended .exit))) ⌝ }
-{
-    stepwise::start(
-        top,
-        bottom,
-        columns,
-        tracks,
-        drawn,
-        upper,
-        lower,
-        first,
-        last,
-        strands,
-        free,
-        low,
-        high,
-        many,
-        extended,
-    )
-}
-
-// Draws up to k columns more of such a sweep.
-#[no_mangle]
-pub extern "C" fn gaxwethi_sweep_step(
-    columns: usize,
-    tracks: usize,
-    drawn: &mut usize,
-    upper: &[u16; 256],
-    lower: &[u16; 256],
-    first: &[u16; 257],
-    last: &[u16; 257],
-    strands: &mut [u16; 512],
-    free: &mut [u64; 8],
-    low: &mut [u16; 257],
-    high: &mut [u16; 257],
-    many: &mut [u16; 257],
-    extended: &mut [u64; 8],
-    layout: &mut [u16],
-    k: usize,
-) -> Stepped
-    ensures channel { λ r. ⌜ ((top bottom : List ℕ) (t c : ℕ) → Stands top bottom t c (stateOf columns tracks (now (drawn .entry)) (now (upper .entry))
-        (now (lower .entry)) (now (first .entry)) (now (last .entry)) (now (strands .entry)) (now (free .entry)) (now (low .entry)) (now (high .entry))
-        (now (many .entry)) (now (extended .entry)))
-        → Steps top bottom t c k (now (layout .entry)) (now (layout .exit)) r (stateOf columns tracks (now (drawn .exit)) (now (upper .entry))
-        (now (lower .entry)) (now (first .entry)) (now (last .entry)) (now (strands .exit)) (now (free .exit)) (now (low .exit)) (now (high .exit))
-        (now (many .exit)) (now (extended .exit)))) ⌝ }
-    ensures refused { λ r. ⌜ KeptIfRefused (r .number) (stateOf columns tracks (now (drawn .entry)) (now (upper .entry))
-        (now (lower .entry)) (now (first .entry)) (now (last .entry)) (now (strands .entry)) (now (free .entry)) (now (low .entry)) (now (high .entry))
-        (now (many .entry)) (now (extended .entry))) (stateOf columns tracks (now (drawn .exit)) (now (upper .entry))
-        (now (lower .entry)) (now (first .entry)) (now (last .entry)) (now (strands .exit)) (now (free .exit)) (now (low .exit)) (now (high .exit))
-        (now (many .exit)) (now (extended .exit))) ⌝ }
-    ensures slice { λ r. ⌜ (r .number ≢ 0 → now (layout .exit) ≡ now (layout .entry)) ⌝ }
-{
-    stepwise::step(
-        columns,
-        tracks,
-        drawn,
-        upper,
-        lower,
-        first,
-        last,
-        strands,
-        free,
-        low,
-        high,
-        many,
-        extended,
-        layout,
-        k,
-    )
-}
-
-// Places a late net in the channel of such a sweep.
-#[no_mangle]
-pub extern "C" fn gaxwethi_sweep_place(
-    columns: usize,
-    tracks: usize,
-    drawn: usize,
-    upper: &mut [u16; 256],
-    lower: &mut [u16; 256],
-    first: &mut [u16; 257],
-    last: &mut [u16; 257],
-    net: u16,
-    column1: usize,
-    side1: u16,
-    column2: usize,
-    side2: u16,
-) -> u16
-    ensures channel { λ r. ⌜ ((top bottom strands free low high many extended : List ℕ) (t c : ℕ) → Stands top bottom t c (stateOf columns tracks drawn
-        (now (upper .entry)) (now (lower .entry)) (now (first .entry)) (now (last .entry)) strands free low high many extended)
-        → PlacesLate top bottom t c net column1 side1 column2 side2 r (stateOf columns tracks drawn
-        (now (upper .exit)) (now (lower .exit)) (now (first .exit)) (now (last .exit)) strands free low high many extended)) ⌝ }
-    ensures refused { λ r. ⌜ ((strands free low high many extended : List ℕ) → KeptIfRefused r (stateOf columns tracks drawn
-        (now (upper .entry)) (now (lower .entry)) (now (first .entry)) (now (last .entry)) strands free low high many extended) (stateOf columns tracks drawn
-        (now (upper .exit)) (now (lower .exit)) (now (first .exit)) (now (last .exit)) strands free low high many extended)) ⌝ }
-{
-    stepwise::place(
-        columns,
-        tracks,
-        drawn,
-        upper,
-        lower,
-        first,
-        last,
-        net,
-        column1,
-        side1,
-        column2,
-        side2,
-    )
-}
-
-// Begins a board of n columns. The board, which the caller holds, is lent to each call on it: a number, and arrays that pass as pointers.
-#[no_mangle]
-pub extern "C" fn gaxwethi_board_start(
-    n: usize,
-    columns: &mut usize,
-    top: &mut [u16; 256],
-    bottom: &mut [u16; 256],
-    counts: &mut [u16; 256],
-) -> u16
-    ensures number { λ r. ⌜ r ≡ boardRefused n ⌝ }
-    ensures board { λ r. ⌜ boardWith (now (columns .exit)) (now (top .exit)) (now (bottom .exit)) (now (counts .exit)) ≡ boardOf (startChannel n) ⌝ }
-{
-    board::start(n, columns, top, bottom, counts)
-}
-
-// Adds a net of two pins to a board.
-#[no_mangle]
-pub extern "C" fn gaxwethi_board_add(
-    columns: usize,
-    top: &mut [u16; 256],
-    bottom: &mut [u16; 256],
-    counts: &mut [u16; 256],
-    net: u16,
-    column1: usize,
-    side1: u16,
-    column2: usize,
-    side2: u16,
-) -> u16
-    ensures { λ r. ⌜ Makes (Add net column1 side1 column2 side2) r (boardWith columns (now (top .entry)) (now (bottom .entry)) (now (counts .entry)))
-        (boardWith columns (now (top .exit)) (now (bottom .exit)) (now (counts .exit))) ⌝ }
-{
-    board::add(
-        columns,
-        top,
-        bottom,
-        counts,
-        net,
-        column1,
-        side1,
-        column2,
-        side2,
-    )
-}
-
-// Drops a net from a board.
-#[no_mangle]
-pub extern "C" fn gaxwethi_board_drop(
-    columns: usize,
-    top: &mut [u16; 256],
-    bottom: &mut [u16; 256],
-    counts: &mut [u16; 256],
-    net: u16,
-) -> u16
-    ensures { λ r. ⌜ Makes (Drop net) r (boardWith columns (now (top .entry)) (now (bottom .entry)) (now (counts .entry)))
-        (boardWith columns (now (top .exit)) (now (bottom .exit)) (now (counts .exit))) ⌝ }
-{
-    board::drop(columns, top, bottom, counts, net)
-}
-
-// The density of the channel on a board.
-#[no_mangle]
-pub extern "C" fn gaxwethi_board_density(columns: usize, counts: &[u16; 256]) -> u16
-    ensures { λ r. ⌜ ((ch : Channel) (top bottom : List ℕ) → StandsFor ch (boardWith columns top bottom (now (counts .entry)))
-        → r ≡ channelDensity (ch .top) (ch .bottom)) ⌝ }
-{
-    board::density(columns, counts)
-}
-
-// The count at a gap of the channel on a board.
-#[no_mangle]
-pub extern "C" fn gaxwethi_board_count(columns: usize, counts: &[u16; 256], gap: usize) -> u16
-    ensures { λ r. ⌜ ((ch : Channel) (top bottom : List ℕ) → StandsFor ch (boardWith columns top bottom (now (counts .entry))) → r ≡ gapCount ch gap) ⌝ }
-{
-    board::count(columns, counts, gap)
 }
