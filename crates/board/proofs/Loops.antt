@@ -15,6 +15,7 @@ use Rattle.grid.specs.Nets.{isPinned, firstTo, lastTo, firstColumn}
 use Rattle.grid.proofs.Tests.{eq-eqb, ne-eqb, lt-ltb, le-ltb, le-leb, lt-leb, and-none, Below, below, above, belowBy}
 use Rattle.board.specs.Changes.{withoutNet}
 use Rattle.board.specs.Working.{mendedCount, Mended, largestIn}
+use Rattle.board.proofs.Without.{restOf}
 
 -- COUNTS MENDED
 
@@ -133,10 +134,6 @@ module _ (top bottom : List ℕ) (net : ℕ) where
       ap₂ (λ (q : Bool) (k : ℕ). pick q (suc c) (lastTo top bottom net k)) (ap (isPinned top bottom net) (sym s) ∙ p) (sym s)
 
 -- A ROW CLEARED
-
--- what stays of a number where a net goes
-abbrev pub restOf : (net x : ℕ) → ℕ
-restOf net x = pick (eqb x net) 0 x
 
 -- a row with its first i places cleared
 unfoldable pub clearedTo : (net i : ℕ) → List ℕ → List ℕ

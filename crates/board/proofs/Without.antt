@@ -16,9 +16,9 @@ use Rattle.grid.proofs.Sums.{sum-same}
 use Rattle.grid.proofs.Rows.{left-right}
 use Rattle.board.specs.Changes.{withoutNet}
 
--- what stays of a number
-abbrev stays : (net x : ℕ) → ℕ
-stays net x = pick (eqb x net) 0 x
+-- what stays of a number where a net goes
+abbrev pub restOf : (net x : ℕ) → ℕ
+restOf net x = pick (eqb x net) 0 x
 
 -- ONE ROW
 
@@ -31,7 +31,7 @@ take-without : (net : ℕ) (l : List ℕ) (c : ℕ) → take c (withoutNet net l
 unfolding withoutNet
 take-without net l zero = refl
 take-without net [] (suc c) = refl
-take-without net (x ∷ xs) (suc c) = ap (λ (r : List ℕ). stays net x ∷ r) (take-without net xs c)
+take-without net (x ∷ xs) (suc c) = ap (λ (r : List ℕ). restOf net x ∷ r) (take-without net xs c)
 
 drop-without : (net : ℕ) (l : List ℕ) (c : ℕ) → drop c (withoutNet net l) ≡ withoutNet net (drop c l)
 unfolding withoutNet
@@ -73,7 +73,7 @@ without-none net (x ∷ xs) e = ap₂ _∷_ (go (eqb x net) (sameBy x net)) (wit
 pub without-put : (net : ℕ) (l : List ℕ) (i : ℕ) → getD l i 0 ≡ 0 → withoutNet net (set l i net) ≡ withoutNet net l
 unfolding withoutNet
 without-put net l i e =
-    map-set-same (stays net) l i net 0 (ap (λ (q : Bool). pick q 0 net) (eq-eqb net net refl) ∙ sym (ap (stays net) e ∙ pick-same (eqb 0 net) 0))
+    map-set-same (restOf net) l i net 0 (ap (λ (q : Bool). pick q 0 net) (eq-eqb net net refl) ∙ sym (ap (restOf net) e ∙ pick-same (eqb 0 net) 0))
 
 -- TWO ROWS
 

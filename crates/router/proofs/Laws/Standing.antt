@@ -2,15 +2,15 @@
 use Prim.Native.Nat.{ℕ, _+_, _-_, _≤_, _<_}
 use mathlib.Core.Path.{_≡_, refl, sym, ap, _∙_}
 use mathlib.Core.Bool.{Bool, true, false, _||_}
-use mathlib.Core.List.{List, _++_}
+use mathlib.Core.List.{List}
 use native.Mathlib.Omega.{arith}
 use lib.Dec.{ltb}
-use lib.ListN.{length, take, getD, replicate, List·getD-append, List·getD-eq-default}
+use lib.ListN.{length, take, getD}
 use Rattle.grid.specs.declared.Family.the-variants.{TwoPin}
 use Rattle.grid.specs.Channel.{density, family, rowsRefused}
 use Rattle.grid.specs.Nets.{firstColumn, lastColumn, table}
 use Rattle.grid.specs.Places.{padded}
-use Rattle.grid.proofs.Tests.{not-both, below-or, or-false, ltb-false, le-ltb}
+use Rattle.grid.proofs.Tests.{not-both, or-false, ltb-false, le-ltb}
 use Rattle.grid.proofs.Places.{padded-at}
 use Rattle.grid.proofs.Rows.{RowsFit, rows-fit}
 use Rattle.sweep.specs.Drawing.{width}
