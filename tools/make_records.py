@@ -15,7 +15,6 @@ import sys
 
 from second_record import write_record
 from second_router import LARGEST, LISTED, listing
-from second_widest import columns_of
 from three_pin_channels import channels as three_pin_channels
 
 COUNT = 240  # records drawn by lot, beside the others
@@ -65,8 +64,6 @@ BEGINNINGS = (  # two channels of one family and one density whose first columns
     (([1, 0, 1], [2, 1, 2]), ([1, 0, 2], [2, 1, 2]), 2),
     (([1, 1, 1], [2, 2, 1]), ([1, 1, 2], [2, 2, 2]), 2),
 )
-
-WIDEST = (2, 3, 4, 5, 12, 13, LISTED)  # columns of channels of two-pin nets with the widest drawing
 
 
 def split(terminals):
@@ -210,8 +207,8 @@ def damaged(chance):
 
 
 def records(count):
-    """The cases of the paper, every n from 0 to 64, the densest, those of the third sweep, with empty columns and with the same beginning, some with the
-    widest drawing, then as many others as asked for."""
+    """The cases of the paper, every n from 0 to 64, the densest, those of the third sweep, with empty columns and with the same beginning, then as many
+    others as asked for."""
     chance = random.Random(count)
     made = [write_record(top, bottom) for top, bottom in CASES]
     made += [write_record(*(channel if n < 24 else sparse)(chance, n)) for n in range(LISTED + 1)]
@@ -219,7 +216,6 @@ def records(count):
     made += [write_record(*dense_many(chance, LISTED, pins)) for pins in (3, 4)]
     made += [write_record(top, bottom) for top, bottom in (*three_pin_channels(), *EMPTY_COLUMNS)]
     made += [write_record(*rows) for *pair, _ in BEGINNINGS for rows in pair]
-    made += [write_record(*map(list, zip(*columns_of(n)))) for n in WIDEST]
     for _ in range(count):
         kind = chance.randrange(4)
         if kind < 2:

@@ -38,7 +38,7 @@ of_record s rest =
 abbrev pub Over : List ℕ → Type 0
 Over row = (i : ℕ) × (i < length row) × (256 < get_or row i 0)
 
--- LENGTHS of the rows, n and m, with a limit of columns
+-- LENGTHS of rows that are not read, n and m, with a limit of columns
 abbrev pub of_lengths : (n m most : ℕ) → Table → Table
 of_lengths n m most rest =
     -- "lengths differ"
@@ -48,15 +48,18 @@ of_lengths n m most rest =
     rest)
 
 module _ (top bottom : List ℕ) where
-  -- ROWS
+  -- ROWS, with a limit of columns
   abbrev pub of_rows : (most : ℕ) → Table → Table
   of_rows most rest =
-      of_lengths (length top) (length bottom) most
+      -- "lengths differ"
+      line 4 (length top ≢ length bottom)
+      -- "over 256 columns; in `knee` over 64"
+      (line 5 (most < length top)
       -- "a number over 256"
       (line 6 (Over top ⊎ Over bottom)
       -- "a net with one pin"
       (line 7 ((v : ℕ) × (v ≢ 0) × (pins top bottom v ≡ 1))
-      rest))
+      rest)))
 
   -- LENT SLICE: document 02, Job 5, "the true one, w × (2t + 1) with the width that the sweep will reach, and 8 is given only below that"
   abbrev pub of_layout : (lent : ℕ) → Table
@@ -73,10 +76,11 @@ module _ (top bottom : List ℕ) where
 -- ROWS of a sweep that its caller drives: document 02, Job 10, "In this sweep 7 stands for any net without exactly two pins"
 abbrev pub of_pair_rows : (top bottom : List ℕ) → Table → Table
 of_pair_rows top bottom rest =
-    of_lengths (length top) (length bottom) 256
+    line 4 (length top ≢ length bottom)
+    (line 5 (256 < length top)
     (line 6 (Over top ⊎ Over bottom)
     (line 7 ((v : ℕ) × (v ≢ 0) × (pins top bottom v ≢ 0) × (pins top bottom v ≢ 2))
-    rest))
+    rest)))
 
 -- LENT SLICE of its steps: "this sweep needs the slice length of document 01's own formula"
 abbrev pub of_step : (n t lent : ℕ) → Table
