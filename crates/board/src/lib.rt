@@ -1,6 +1,7 @@
 // A channel on the drawing board: nets of two pins are added and dropped, and the count of open nets at each gap is stored and mended by each change. The
 // caller holds the board, a number and three arrays, and lends it to each call. Every call ends on any board; what it promises, it promises of a board that
 // the call before left.
+#![tactic(auto)]
 mod changes;
 mod counts;
 mod rows;

@@ -1,4 +1,5 @@
 // The checker: whether a drawing is a solution of a channel. It rests on the rules of the grid alone.
+#![tactic(auto)]
 mod counting;
 mod ends;
 mod entries;

@@ -1,6 +1,7 @@
 // A sweep that its caller drives, for channels of two-pin nets: columns are drawn some at a time, and nets may be placed late. The caller holds the state,
 // three numbers and the arrays of the sweep, and lends it to each call. Every call ends on any state; what it promises, it promises of a state that the call
 // before left.
+#![tactic(auto)]
 mod columns;
 mod rows;
 
