@@ -55,6 +55,7 @@ left_not n t b q j p (past e) k l m = omega arith
 -- one edge other than p
 one_of : {p a : ℕ} → p ≢ a → (q : ℕ) → In q (a ∷ []) → q ≢ p
 one_of x q (head e) = λ y. x (sym y ∙ e)
+one_of x q (later i) = elim i [ ]
 
 -- and several
 more_of : {p a : ℕ} {cs : List ℕ} → p ≢ a → ((q : ℕ) → In q cs → q ≢ p) → (q : ℕ) → In q (a ∷ cs) → q ≢ p

@@ -110,6 +110,7 @@ module _ (D : List ℕ) (t : ℕ) where
   in_at p x j k (later (head e)) n = let o : p ≡ x * (2 * t + 1) + suc j = omega arith in foot k o
   in_at p x j k (later (later (head e))) n = left_at p x j k e n
   in_at p x j k (later (later (later (head e)))) n = let l : j ≤ t = omega arith in top l e
+  in_at p x j k (later (later (later (later i)))) n = elim i [ ]
 
   -- and those of one net are linked there
   pub touch : (x j : ℕ) → j < t → Touch (net_of D) (Meets D t) (edges t (x * (2 * t + 1)) (left_from (length D) t x) j)

@@ -75,6 +75,7 @@ tail t = record { tied = λ p q i j. t.tied p q (later i) (later j) }
 choose_at :
     (net f : ℕ → ℕ) (cs : List ℕ) (N z q : ℕ) → Tied net f cs → In q cs → N ≡ net q → N ≢ 0 → choose net f N cs z ≡ f q
 unfolding choose
+choose_at net f [] N z q t i m o = elim i [ ]
 choose_at net f (c ∷ cs) N z q t (head x) m o = rw (eq-eqb N (net c) (m ∙ ap net x)) (ap f (sym x))
 choose_at net f (c ∷ cs) N z q t (later i) m o = go (choose_at net f cs N z q (tail t) i m o) (ℕ_discrete N (net c))
   where

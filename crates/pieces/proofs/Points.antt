@@ -19,6 +19,7 @@ one_tied net f d = record { tied = λ p q i j m o. ap f (only p i ∙ sym (only 
   where
     only : (p : ℕ) → In p (d ∷ []) → p ≡ d
     only p (head e) = e
+    only p (later i) = elim i [ ]
 
 -- after a point its edges are tied
 tied_point : (net : ℕ → ℕ) (t b q j : ℕ) (f : ℕ → ℕ) → Tied net (after_right net t b q j f) (edges t b q j)

@@ -170,14 +170,19 @@ member s v (x ∷ xs) (suc i) h g = go (eqb x v) (member (suc s) v xs i (omega a
 -- of two numbers each is the first or the last, and of one both
 any_ends : (y : ℕ) (l : List ℕ) → Any y l → length l ≤ 2 → (y ≡ first l) ⊎ (y ≡ last l)
 unfolding first last
+any_ends y [] m h = elim m [ ]
 any_ends y (x ∷ []) (inl e) h = inl e
+any_ends y (x ∷ []) (inr m) h = elim m [ ]
 any_ends y (x ∷ z ∷ []) (inl e) h = inl e
 any_ends y (x ∷ z ∷ []) (inr (inl e)) h = inr e
+any_ends y (x ∷ z ∷ []) (inr (inr m)) h = elim m [ ]
 any_ends y (x ∷ z ∷ u ∷ us) m h = absurd (omega arith)
 
 any_lone : (y : ℕ) (l : List ℕ) → Any y l → length l ≤ 1 → (y ≡ first l) × (y ≡ last l)
 unfolding first last
+any_lone y [] m h = elim m [ ]
 any_lone y (x ∷ []) (inl e) h = (e, e)
+any_lone y (x ∷ []) (inr m) h = elim m [ ]
 any_lone y (x ∷ z ∷ zs) m h = absurd (omega arith)
 
 -- THE STRANDS OF A NET
