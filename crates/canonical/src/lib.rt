@@ -12,7 +12,7 @@ ghost use Rattle.canonical.specs.Canonical.{number_of, length_of, canonical, rec
 ghost use Rattle.canonical.specs.Working.{given_after, number_after, Ranked};
 
 // The bytes of the record, or the number of the refusal.
-#[derive(Drop)]
+#[derive(Clone, Copy)]
 pub enum Written {
     Bytes(usize),
     Refused(u16),

@@ -8,7 +8,7 @@ use crate::ends::{Loose, keep_point};
 use crate::meeting::{begin, point};
 
 // The lowest net in more than one piece, else 257, and the lowest with a loose end.
-#[derive(Drop)]
+#[derive(Clone, Copy)]
 pub(crate) struct FaultyNets {
     pub(crate) split: usize,
     pub(crate) loose: Loose,

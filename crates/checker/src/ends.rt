@@ -5,7 +5,7 @@ ghost use Rattle.checker.specs.Working.{ColumnAt, alone, alone_net, lowest_alone
 use crate::entries::entry;
 
 // A net with a loose end, 257 for none, and the column and row of its first, counted from 1.
-#[derive(Drop)]
+#[derive(Clone, Copy)]
 pub(crate) struct Loose {
     pub(crate) net: u16,
     pub(crate) column: usize,

@@ -14,7 +14,7 @@ use grid::RowCheck;
 
 // The number of a refusal, and its place: of 13 to 15, 19 and 20 the lowest entry position, from 0, of 16 and 17 the lowest net number, else 0. Of 17 also
 // the column and row of that net's first loose end, counted from 1, else 0.
-#[derive(Drop)]
+#[derive(Clone, Copy)]
 pub struct Fault {
     pub number: u16,
     pub place: usize,
@@ -22,7 +22,7 @@ pub struct Fault {
     pub row: usize,
 }
 
-#[derive(Drop)]
+#[derive(Clone, Copy)]
 pub enum Checked {
     Passed,
     Refused(Fault),

@@ -25,21 +25,21 @@ use router::{Length, Routed};
 use widest::Added;
 
 #[repr(C)]
-#[derive(Drop)]
+#[derive(Clone, Copy)]
 pub struct DensityResult {
     pub number: u16,
     pub density: usize,
 }
 
 #[repr(C)]
-#[derive(Drop)]
+#[derive(Clone, Copy)]
 pub struct NeedResult {
     pub number: u16,
     pub length: usize,
 }
 
 #[repr(C)]
-#[derive(Drop)]
+#[derive(Clone, Copy)]
 pub struct RouteResult {
     pub number: u16,
     pub density: usize,
@@ -48,7 +48,7 @@ pub struct RouteResult {
 }
 
 #[repr(C)]
-#[derive(Drop)]
+#[derive(Clone, Copy)]
 pub struct CheckResult {
     pub number: u16,
     pub place: usize,
@@ -57,21 +57,21 @@ pub struct CheckResult {
 }
 
 #[repr(C)]
-#[derive(Drop)]
+#[derive(Clone, Copy)]
 pub struct ListResult {
     pub number: u16,
     pub length: usize,
 }
 
 #[repr(C)]
-#[derive(Drop)]
+#[derive(Clone, Copy)]
 pub struct CanonicalResult {
     pub number: u16,
     pub length: usize,
 }
 
 #[repr(C)]
-#[derive(Drop)]
+#[derive(Clone, Copy)]
 pub struct WidestResult {
     pub number: u16,
     pub added: usize,

@@ -17,7 +17,7 @@ ghost use Rattle.grid.specs.View.{no_part, column_part, column_view};
 
 // The families of channels, each with a sweep of its own: each net has two pins; the largest has three, and none of these has its first two pins in one
 // column; or neither.
-#[derive(Drop)]
+#[derive(Clone, Copy)]
 pub enum Family {
     TwoPin,
     ThreePin,
@@ -25,20 +25,20 @@ pub enum Family {
 }
 
 // Of accepted rows: the number of columns, the density, and the family.
-#[derive(Drop)]
+#[derive(Clone, Copy)]
 pub struct Size {
     pub columns: usize,
     pub density: usize,
     pub family: Family,
 }
 
-#[derive(Drop)]
+#[derive(Clone, Copy)]
 pub enum RowCheck {
     Fit(Size),
     Refused(u16),
 }
 
-#[derive(Drop)]
+#[derive(Clone, Copy)]
 pub enum DensityCount {
     Is(usize),
     Refused(u16),
@@ -46,7 +46,7 @@ pub enum DensityCount {
 
 // A part of a layout: from which entry on, and how many entries.
 #[repr(C)]
-#[derive(Drop)]
+#[derive(Clone, Copy)]
 pub struct Part {
     pub offset: usize,
     pub length: usize,
@@ -54,7 +54,7 @@ pub struct Part {
 
 // The vertical wires of a column, five segments: the bottom net's edges below row low, nothing up to row start, the middle net's up to row stop, nothing up
 // to row high, the top net's above.
-#[derive(Drop)]
+#[derive(Clone, Copy)]
 pub struct Segments {
     pub bottom: u16,
     pub low: u16,

@@ -4,7 +4,7 @@ ghost use Rattle.grid.specs.Channel.{over};
 ghost use Rattle.grid.specs.Working.{some_to};
 
 // Whether a net has a single pin, whether one has three or more, and whether one has four or more.
-#[derive(Drop)]
+#[derive(Clone, Copy)]
 pub(crate) struct Flags {
     pub single: bool,
     pub three: bool,

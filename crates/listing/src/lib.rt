@@ -18,7 +18,7 @@ use router::Routed;
 pub const ROOM: usize = 131072;
 
 // The bytes of the text, or the number of the refusal.
-#[derive(Drop)]
+#[derive(Clone, Copy)]
 pub enum Listed {
     Text(usize),
     Refused(u16),

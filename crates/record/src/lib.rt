@@ -6,7 +6,7 @@ ghost use Rattle.record.specs.Record.{word as Record·word, record_refused, reco
 ghost use Rattle.record.specs.Counts.{Counts};
 
 // A channel of that many columns, or the number of a refusal.
-#[derive(Drop)]
+#[derive(Clone, Copy)]
 pub enum Reading {
     Channel(usize),
     Refused(u16),

@@ -15,7 +15,7 @@ use grid::RowCheck;
 
 // Columns are counted from 1; an unused number has zeros. The length is counted in a drawing, and 0 without one. As a length needs 32 bits, all four have
 // them, so that a record has no padding.
-#[derive(Drop)]
+#[derive(Clone, Copy)]
 pub struct NetRecord {
     pub first: u32,
     pub last: u32,
@@ -24,27 +24,27 @@ pub struct NetRecord {
 }
 
 // The drawing that lengths are counted in: none, or the layout, of so many columns and tracks.
-#[derive(Drop)]
+#[derive(Clone, Copy)]
 pub enum Drawing {
     Absent,
     Given(usize, usize),
 }
 
-#[derive(Drop)]
+#[derive(Clone, Copy)]
 pub enum Reported {
     Filled,
     Refused(Fault),
 }
 
 // An answer, and the table of 256 records that the call leaves.
-#[derive(Drop)]
+#[derive(Clone, Copy)]
 pub struct Reply {
     pub answer: Reported,
     pub table: [NetRecord; 256],
 }
 
 // What a call answers, and what it writes to the front of its table: the first `count` of the records.
-#[derive(Drop)]
+#[derive(Clone, Copy)]
 pub struct Collected {
     pub answer: Reported,
     pub count: usize,

@@ -23,7 +23,7 @@ ghost use Rattle.router.specs.Working.{Ready, EachFits, blank, no_nets};
 use grid::{Family, RowCheck};
 
 // The figures of a drawn channel.
-#[derive(Drop)]
+#[derive(Clone, Copy)]
 pub struct Figures {
     pub density: usize,
     pub tracks: usize,
@@ -31,14 +31,14 @@ pub struct Figures {
 }
 
 // What a routing call answers: the figures of the drawing, or the number of the refusal.
-#[derive(Drop)]
+#[derive(Clone, Copy)]
 pub enum Routed {
     Drawn(Figures),
     Refused(u16),
 }
 
 // What the call that states the slice length answers: the entries, or the number of the refusal.
-#[derive(Drop)]
+#[derive(Clone, Copy)]
 pub enum Length {
     Entries(usize),
     Refused(u16),

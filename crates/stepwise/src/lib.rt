@@ -17,7 +17,7 @@ use router::steps;
 
 // What the call that begins a sweep answers: the number of its refusal, 0 for none, the tracks, and the slice length that each step needs.
 #[repr(C)]
-#[derive(Drop)]
+#[derive(Clone, Copy)]
 pub struct Started {
     pub number: u16,
     pub tracks: usize,
@@ -26,7 +26,7 @@ pub struct Started {
 
 // What a step answers: the number of its refusal, 0 for none, the columns drawn so far, and whether all are drawn.
 #[repr(C)]
-#[derive(Drop)]
+#[derive(Clone, Copy)]
 pub struct Stepped {
     pub number: u16,
     pub drawn: usize,

@@ -5,7 +5,7 @@ use grid::Segments;
 
 // A terminal of the column: its net (0: none), its kind (0 none, 1 starts, 2 continues, 3 ends) and its net's strands in the gap left of the
 // column: the lowest, the highest and how many.
-#[derive(Drop)]
+#[derive(Clone, Copy)]
 pub struct Pin {
     pub net: u16,
     pub kind: u16,
@@ -15,7 +15,7 @@ pub struct Pin {
 }
 
 // The net that rule 2 joins (0: none), its lowest, second lowest and highest strand, and whether it has pins after the column.
-#[derive(Drop)]
+#[derive(Clone, Copy)]
 pub struct Joint {
     pub net: u16,
     pub low: u16,
@@ -25,7 +25,7 @@ pub struct Joint {
 }
 
 // A net with two strands that has no mate (0: none), its lower and its higher strand, and its last column.
-#[derive(Drop)]
+#[derive(Clone, Copy)]
 pub struct Double {
     pub net: u16,
     pub low: u16,
@@ -34,21 +34,21 @@ pub struct Double {
 }
 
 // The two lowest free tracks, 0 where there is none.
-#[derive(Drop)]
+#[derive(Clone, Copy)]
 pub struct Free {
     pub first: u16,
     pub second: u16,
 }
 
 // A track that a net is given; track 0: none.
-#[derive(Drop)]
+#[derive(Clone, Copy)]
 pub struct Gift {
     pub track: u16,
     pub net: u16,
 }
 
 // What a rule does in a column: its vertical wires; the nets ended and closed, all of whose strands end here (0: none); then up to three tracks given.
-#[derive(Drop)]
+#[derive(Clone, Copy)]
 pub struct Action {
     pub wires: Segments,
     pub ended: u16,
@@ -59,7 +59,7 @@ pub struct Action {
 }
 
 // What a rule does in a column and the pair that it forms, a double and a single net (0 and 0: none).
-#[derive(Drop)]
+#[derive(Clone, Copy)]
 pub struct Move {
     pub action: Action,
     pub double: u16,

@@ -6,7 +6,7 @@ ghost use Rattle.widest.specs.Widest.{by_two, halves, number_of, columns_of, ref
 ghost use Rattle.widest.specs.Working.{front_cleared};
 
 // The columns that the drawing adds, or the number of the refusal.
-#[derive(Drop)]
+#[derive(Clone, Copy)]
 pub enum Added {
     Columns(usize),
     Refused(u16),
