@@ -1,5 +1,6 @@
 // Sets of the numbers 0 to 511, as eight 64-bit words: the number k is bit k % 64 of word k / 64. Numbers are taken modulo 512.
 #![tactic(auto)]
+
 ghost use Rattle.std.specs.Prelude.{◌≡◌, false, true, ℕ, ◌+◌, ◌*◌, ◌/◌, ◌%◌, ◌<◌, ◌≤◌, length, get_or};
 ghost use Rattle.sets.specs.Member.{member, Put, LowestFrom};
 

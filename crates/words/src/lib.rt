@@ -1,5 +1,6 @@
 // What the test programs share that read cases as 16-bit words: room for the input and for its words, the words of some bytes, and words as numbers.
 #![tactic(auto)]
+
 ghost use Rattle.std.specs.Prelude.{◌≡◌, ◌+◌, ◌*◌, ◌<◌, ◌≤◌, length};
 ghost use Rattle.words.specs.Words.{word_at, Decoded};
 
