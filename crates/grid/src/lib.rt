@@ -1,5 +1,6 @@
 // The channel and its grid: the row check, the facts of each net, the density, one column of a layout.
 #![tactic(auto)]
+
 mod families;
 mod gaps;
 mod scan;
