@@ -1,5 +1,6 @@
 // Placing a two-pin net in the rows of a channel whose first columns may be drawn.
 #![tactic(auto)]
+
 ghost use Rattle.std.specs.Prelude.{◌≡◌, ◌≤◌, ltb, length};
 ghost use Rattle.grid.specs.Channel.{times};
 ghost use Rattle.grid.specs.Refusals.{if_accepted};

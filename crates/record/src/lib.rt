@@ -1,5 +1,6 @@
 // A channel read from the bytes of a record.
 #![tactic(auto)]
+
 ghost use Rattle.std.specs.Prelude.{◌≡◌, ◌+◌, ◌*◌, ◌≤◌, ◌<◌, length};
 ghost use Rattle.grid.specs.Refusals.{if_accepted};
 ghost use Rattle.record.specs.Record.{word as Record·word, record_refused, record_read, number, columns, row, top_row, bottom_row, laid};

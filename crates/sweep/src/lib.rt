@@ -1,6 +1,7 @@
 // The sweeps of documents 01 and 02, as definitions and laws: specs/ has the rules and the drawing, proofs/ that every drawing is a solution. No code but the
 // structs that the definitions speak of.
 #![tactic(auto)]
+
 use grid::Segments;
 
 // A terminal of the column: its net (0: none), its kind (0 none, 1 starts, 2 continues, 3 ends) and its net's strands in the gap left of the
