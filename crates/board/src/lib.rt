@@ -2,6 +2,7 @@
 // caller holds the board, a number and three arrays, and lends it to each call. Every call ends on any board; what it promises, it promises of a board that
 // the call before left.
 #![tactic(auto)]
+
 mod changes;
 mod counts;
 mod rows;
