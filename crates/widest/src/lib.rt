@@ -1,5 +1,6 @@
 // The widest drawing: a channel of two-pin nets for which the router adds the most columns, written into two lent rows.
 #![tactic(auto)]
+
 ghost use Rattle.std.specs.Prelude.{◌≡◌, ◌/◌, ◌%◌, ◌≤◌, length};
 ghost use Rattle.grid.specs.Refusals.{if_accepted};
 ghost use Rattle.widest.specs.Widest.{by_two, halves, number_of, columns_of, refused, answer, top_after, bottom_after};
