@@ -1,5 +1,6 @@
 // One spelling of a channel: a record of kind 1 with its nets renumbered in the order of their first pin.
 #![tactic(auto)]
+
 ghost use Rattle.std.specs.Prelude.{◌≡◌, List, [], ◌∷◌, map, false, ℕ, ◌+◌, ◌*◌, ◌≤◌, length, get_or};
 ghost use Rattle.grid.specs.Channel.{over};
 ghost use Rattle.grid.specs.Nets.{table, zero_table};

@@ -1,5 +1,6 @@
 // The checker: whether a drawing is a solution of a channel. It rests on the rules of the grid alone.
 #![tactic(auto)]
+
 mod counting;
 mod ends;
 mod entries;

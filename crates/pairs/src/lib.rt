@@ -1,6 +1,7 @@
 // Pairs of nets in three-pin channels: each net's mate, the set of the unpaired double nets, and of these the one that ends last and the lowest other one.
 // Total functions of lent tables with a figure of each net at its number.
 #![tactic(auto)]
+
 ghost use Rattle.std.specs.Prelude.{◌≡◌, false, ◌||◌, ◌%◌, ◌≤◌, eqb, ltb, get_or, set};
 ghost use Rattle.grid.specs.Channel.{pick};
 ghost use Rattle.sets.specs.Member.{member};

@@ -1,0 +1,17 @@
+-- `checker::entries::find_strange` meets its contract: by the table of pins the unknown entries are the strange ones.
+use mathlib.Core.Path.{◌∙◌, sym}
+use Rattle.checker.proofs.Least.{least_none}
+use Rattle.checker.proofs.entries.Nets.{least-strange}
+use Rattle.checker.proofs.entries.find_strange.Goals as goal
+
+pub returns-then-all_known : goal.returns-then-all_known
+returns-then-all_known c =
+    let start = c.before.before.before.before.before in
+    let a = start.args in
+    sym (least_none _ _ (c.before.all_Known.ensures c.if1.true))
+    ∙ least-strange a.top.now a.bottom.now a.pins.now a.layout.now start.requires
+
+pub returns : goal.returns
+returns c =
+    let a = c.args in
+    c.find_unknown.ensures ∙ least-strange a.top.now a.bottom.now a.pins.now a.layout.now c.requires

@@ -1,0 +1,5 @@
+-- `top_ends` meets its contract.
+use Rattle.rules.proofs.actions.top_ends.Goals as goal
+
+pub returns : goal.returns
+returns c = cc
