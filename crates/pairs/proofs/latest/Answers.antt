@@ -31,13 +31,12 @@ loop-v-smaller c =
 
 pub loop-v-preserved : goal.loop-v-preserved
 loop-v-preserved c =
-    let o = c.before.before.before.before.before.before in
-    let l = c.before.before.before.loop in
-    let t = c.before.before.loop-test.true in (
-      c.above2.ensures.small,
-      (λ n. (c.above2.ensures.found n).1),
-      latest_more (λ u. get_or o.args.last.now u 0) (member o.args.lone.now) l.v c.above2.result l.best c.before.Later-of.result l.invariant.0 t (l.invariant.1 t) l.invariant.2
-          c.before.Later-of.ensures (from c),
+    let l = c.loop-v in
+    let t = c.loop-v-test.true in (
+      c.above-v-in-loop-v.ensures.small,
+      (λ n. (c.above-v-in-loop-v.ensures.found n).1),
+      latest_more (λ u. get_or c.args.last.now u 0) (member c.args.lone.now) l.v c.above-v-in-loop-v.result l.best c.later_of-best.result l.invariant.0 t (l.invariant.1 t) l.invariant.2
+          c.later_of-best.ensures (from c),
     )
 
 pub returns : goal.returns

@@ -8,11 +8,9 @@ use Rattle.pairs.proofs.mark.Goals as goal
 
 pub returns-then-v-eq0 : goal.returns-then-v-eq0
 returns-then-v-eq0 c h z =
-    let o = c.before.before.before in
-    none_told o.args.many.now o.args.mates.now o.args.lone.now o.args.v c.if1.true z
+    none_told c.args.many.now c.args.mates.now c.args.lone.now c.args.v c.if-v-eq0.true z
 
 pub returns : goal.returns
 returns c h z =
-    let o = c.before.before.before.before.before.before.before in
-    put_told o.args.many.now o.args.mates.now o.args.lone.now _ o.args.v _ c.before.before.before.before.if1.false h
-    (ap₂ (λ (x y : ℕ). eqb x 2 && eqb y 0) c.before.before.before.entry.ensures c.before.before.entry2.ensures) c.put.ensures
+    put_told c.args.many.now c.args.mates.now c.args.lone.now _ c.args.v _ c.if-v-eq0.false h
+    (ap₂ (λ (x y : ℕ). eqb x 2 && eqb y 0) c.entry.ensures c.entry-2.ensures) c.put.ensures

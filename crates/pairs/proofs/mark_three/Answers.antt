@@ -7,8 +7,7 @@ use Rattle.pairs.proofs.mark_three.Goals as goal
 
 pub returns : goal.returns
 returns c h k l z =
-    let o = c.before.before.before.before.before.before.before.before.before in
-    let a = c.before.before.before.before.before.apart in
-    marked_apart o.args.u o.args.v o.args.w
-    (rw (sym a.ensures) (three_told o.args.many.now o.args.mates.now o.args.lone.now _ _ _ a.result o.args.v o.args.w z
-    (c.before.before.before.before.mark.ensures (omega (arith, a.ensures, apart_most o.args.u o.args.v o.args.w, h))) (c.before.before.mark2.ensures k) (c.mark3.ensures l)))
+    let a = c.apart in
+    marked_apart c.args.u c.args.v c.args.w
+    (rw (sym a.ensures) (three_told c.args.many.now c.args.mates.now c.args.lone.now _ _ _ a.result c.args.v c.args.w z
+    (c.mark.ensures (omega (arith, a.ensures, apart_most c.args.u c.args.v c.args.w, h))) (c.mark-2.ensures k) (c.mark-3.ensures l)))

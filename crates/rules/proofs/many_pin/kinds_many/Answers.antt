@@ -89,4 +89,4 @@ returns-in-15 c =
 pub returns-in_default : goal.returns-in_default
 unfolding ManyPin.by_kinds Rules.kind_of
 returns-in_default c =
-    no_kinds (ManyPin.by_kinds c.args.a c.args.b c.args.f) _ _ _ _ c.kind_number.ensures c.kind_number-2.ensures c.in_default.rest c.go_straight.ensures
+    no_kinds (ManyPin.by_kinds c.args.a c.args.b c.args.f) _ _ _ _ c.kind_number.ensures c.kind_number-2.ensures c.in_default.in_default-own.rest c.go_straight.ensures

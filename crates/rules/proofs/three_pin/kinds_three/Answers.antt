@@ -7,6 +7,7 @@ use native.Mathlib.Omega.{arith}
 use Rattle.sweep.specs.ThreePin
 use Rattle.sweep.specs.Rules
 use Rattle.sweep.specs.Drawing.{no_joint}
+use borrow.Author.Rules.{rules}
 use Rattle.rules.proofs.three_pin.kinds_three.Goals as goal
 
 pub overflow_mul-kind_number : goal.overflow_mul-kind_number
@@ -109,4 +110,4 @@ pub returns-in_default : goal.returns-in_default
 unfolding ThreePin.by_kinds ThreePin.join_else Rules.kind_of
 returns-in_default c =
     let o = c.args in
-    no_kinds (ThreePin.by_kinds o.a o.b o.ea o.eb o.f no_joint o.d o.m) _ _ _ _ c.kind_number.ensures c.kind_number-2.ensures c.in_default.rest (moves c.still-in_default.ensures c.go_straight.ensures)
+    no_kinds (ThreePin.by_kinds o.a o.b o.ea o.eb o.f no_joint o.d o.m) _ _ _ _ c.kind_number.ensures c.kind_number-2.ensures (search rules) (moves c.still-in_default.ensures c.go_straight.ensures)
