@@ -1,5 +1,6 @@
 // The router: rows and a lent slice in, a drawing out, on d, 3d/2 or 2d - 1 tracks by the channel's family.
 #![tactic(auto)]
+
 mod added;
 mod choose;
 mod columns;

@@ -1,0 +1,10 @@
+-- `next_net` meets its contract.
+use Prim.Native.Nat.{◌%◌}
+use mathlib.Core.Path.{◌≡◌, refl}
+use native.Mathlib.Omega.{arith}
+use Rattle.router.proofs.nets.next_net.Goals as goal
+
+pub returns : goal.returns
+returns c =
+    let e : c.args.v % 512 ≡ c.args.v = omega arith in
+    record { place = c.above.result; least = rw e at c.above.ensures; is = refl }

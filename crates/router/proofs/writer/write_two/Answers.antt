@@ -1,0 +1,24 @@
+-- `write_two` meets its contract.
+use Rattle.router.proofs.Laws.Columns.{written_none, written_next, written_all}
+use Rattle.router.specs.Working.{two_runs}
+use Prim.Native.Nat.{◌+◌, ◌-◌}
+use native.Mathlib.Omega.{arith}
+use Rattle.router.proofs.writer.write_two.Goals as goal
+
+pub loop-i-init : goal.loop-i-init
+loop-i-init c = let o = c.args in written_none (two_runs o.q o.a o.p) o.part.now (o.t + 1)
+
+pub loop-i-preserved : goal.loop-i-preserved
+loop-i-preserved c =
+    let o = c.args in
+    let l = c.loop-i in
+    written_next (two_runs o.q o.a o.p) o.part.now (o.t + 1) l.i l.k l.part _ l.invariant c.vertical_of_two.ensures (omega arith) (omega arith)
+
+pub shape_of-part : goal.shape_of-part
+shape_of-part c = c.loop-i.invariant.3
+
+pub returns : goal.returns
+returns c =
+    let o = c.args in
+    let l = c.loop-i in
+    written_all (two_runs o.q o.a o.p) o.part.now (o.t + 1) l.i l.k l.part l.invariant (omega arith)
