@@ -12,7 +12,7 @@ returns-then-enough-lent c =
     sym (le-ltb c.args.lent _ (formula_enough c.args.top.now c.args.bottom.now c.args.t c.args.lent c.requires.bottom_in_bounds (omega (arith, c.if-enough-lent.true, c.formula_length-enough.ensures))))
 
 pub slice_length-needed-requires : goal.slice_length-needed-requires
-slice_length-needed-requires c = record { ready = c.requires.0; each_fits = c.requires.1.0; bottom_in_bounds = c.requires.1.1 }
+slice_length-needed-requires c = c.requires
 
 pub returns : goal.returns
 returns c = ap (λ (m : ℕ). ltb c.args.lent m) c.slice_length-needed.ensures

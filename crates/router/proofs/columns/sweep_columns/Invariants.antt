@@ -11,7 +11,7 @@ invariant-loop-i l =
     × ((tp bt : List ℕ) → Reads l.top tp → Reads l.bottom bt → Ready tp bt l.first l.last l.t l.family → FitsFrom l.t tp bt l.from l.to
     → AtGap tp bt l.last l.t l.family l.from l.initial.tracks l.initial.free l.initial.low l.initial.high l.initial.many l.initial.extended l.initial.wide l.initial.mates l.initial.lone
     → AtGap tp bt l.last l.t l.family l.i l.tracks l.free l.low l.high l.many l.extended l.wide l.mates l.lone
-    × ((l : List ℕ) → DrawnTo l.drawing tp bt l.t l.from l l.initial.layout → DrawnTo l.drawing tp bt l.t l.i l l.layout))
+    × ((d : List ℕ) → DrawnTo l.drawing tp bt l.t l.from d l.initial.layout → DrawnTo l.drawing tp bt l.t l.i d l.layout))
 
 abbrev pub decreases-loop-i : goal.decreases-loop-i
 decreases-loop-i l =

@@ -99,7 +99,7 @@ returns-in-15 c e fr g small N j =
 
 pub returns-in_default : goal.returns-in_default
 returns-in_default c e fr g small N j =
-    let r = (search rules) in
+    let r = c.in_default.in_default-own.rest in
     simp (kinds_some c.args.a c.args.b c.requires.kinded.0 c.requires.kinded.1 r.0.0.0.0.0.0.0.0.1)
     (by_kinds_lem c.args.a c.args.b _ N _ c.if-a-b.false
     (c.go_straight.ensures ∙ sym (idle c.args.a c.args.b _ N _ _ (c.requires.kind_bound.0, c.requires.kind_bound.1) r.0.0.0.0.0.0.0.0.1 r.0.0.0.0.0.0.0.1 r.0.0.0.0.0.0.1 r.0.0.0.0.0.1 r.0.0.0.0.1 r.0.0.0.1 r.0.0.1 r.0.1 r.1)))

@@ -28,10 +28,7 @@ returns-then-is_narrow c b z =
 
 pub returns : goal.returns
 returns c b z =
-    let o = c.before.before.before.before.before.before.before.before.before.before.before in
-    let a = o.args in
-    let left = c.before.before.before.before.before.before.before.before.before.before.if1.false in
-    let m = c.before.before.before.before.before in
-    let k = net_number a.v left in
+    let a = c.args in
+    let k = net_number a.v c.if-v.false in
     put_marked a.last.now a.many.now a.c a.v a.extended.now a.wide.now _ _ a.family (λ e. omega (arith, k.0)) b
-    (put_by m.before.is-extended.ensures m.put.ensures) (λ e. put_by c.before.is_IsWide.ensures c.put2.ensures)
+    (put_by c.is_extended.ensures c.put.ensures) (λ e. put_by c.is_wide.ensures c.put-2.ensures)
