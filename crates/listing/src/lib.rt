@@ -1,5 +1,6 @@
 // The listing of a record: the text of its channel's drawing; the line of a refusal; what `knee` writes.
 #![tactic(auto)]
+
 ghost use Rattle.std.specs.Prelude.{◌≡◌, ◌∷◌, [], ◌++◌, ◌+◌, ◌*◌, ◌≤◌, ◌<◌, length};
 ghost use Rattle.grid.specs.Channel.{rows_refused};
 ghost use Rattle.grid.specs.Refusals.{if_accepted};

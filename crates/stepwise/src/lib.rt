@@ -2,6 +2,7 @@
 // three numbers and the arrays of the sweep, and lends it to each call. Every call ends on any state; what it promises, it promises of a state that the call
 // before left.
 #![tactic(auto)]
+
 mod columns;
 mod rows;
 
