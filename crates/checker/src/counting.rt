@@ -57,9 +57,9 @@ fn column(
     requires kept { Kept t layout.now x 0 before }
     requires labs { Labs layout.now t b q 0 (seen layout.now t b q 0) lab.old }
     requires counted_to { CountedTo layout.now (seen layout.now t b q 0) b begun.old joined.old }
-    ensures kept_2 { Kept t layout.now (x + 1) 0 result }
-    ensures labs_2 { Labs layout.now t b q t (seen layout.now t b q t) lab.new }
-    ensures counted_to_2 { CountedTo layout.now (seen layout.now t b q t) (b + 2 * t + 1) begun.new joined.new }
+    ensures kept_after { Kept t layout.now (x + 1) 0 result }
+    ensures labs_after { Labs layout.now t b q t (seen layout.now t b q t) lab.new }
+    ensures counted_after { CountedTo layout.now (seen layout.now t b q t) (b + 2 * t + 1) begun.new joined.new }
 {
     let mut kept = before;
     let mut vl = b as u32;
@@ -85,8 +85,8 @@ fn count_pieces(
     joined: &mut [u32; 257],
 ) -> Loose
     requires within { Within layout.now w t }
-    requires per_net { PerNet 0 begun.old }
-    requires per_net_2 { PerNet 0 joined.old }
+    requires begun_zero { PerNet 0 begun.old }
+    requires joined_zero { PerNet 0 joined.old }
     ensures lowest_loose { LowestLoose w t layout.now result }
     ensures counted_all { CountedAll layout.now w t begun.new joined.new }
 {

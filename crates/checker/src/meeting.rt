@@ -76,11 +76,11 @@ fn label_left(
 ) -> u32
     requires column_at { ColumnAt layout.now t b q }
     requires j_lt_t { j < t }
-    requires entry { Entry layout.now (b + j) vd }
-    requires entry_2 { Entry layout.now (q + j) ln }
+    requires entry_below { Entry layout.now (b + j) vd }
+    requires entry_left { Entry layout.now (q + j) ln }
     requires labels { Labels layout.now t b q j vl lab.old }
     requires per_net { PerNet 1000000 joined.old }
-    ensures fact { Labels₁ layout.now t b q j vl result }
+    ensures labels_left { Labels₁ layout.now t b q j vl result }
     ensures labs { Labs layout.now t b q j (seen₁ layout.now t b q j) lab.new }
     ensures joins_left { JoinsLeft layout.now t b q j joined.old joined.new }
 {
@@ -107,12 +107,12 @@ fn label_up(
 ) -> u32
     requires column_at { ColumnAt layout.now t b q }
     requires j_lt_t { j < t }
-    requires entry { Entry layout.now (b + j) vd }
-    requires entry_2 { Entry layout.now (q + j) ln }
-    requires entry_3 { Entry layout.now (b + j + 1) vu }
-    requires fact { Labels₁ layout.now t b q j vl nl }
+    requires entry_below { Entry layout.now (b + j) vd }
+    requires entry_left { Entry layout.now (q + j) ln }
+    requires entry_above { Entry layout.now (b + j + 1) vu }
+    requires labels_left { Labels₁ layout.now t b q j vl nl }
     requires per_net { PerNet 1000000 begun.old }
-    ensures fact_2 { Labels₂ layout.now t b q j vl nl result }
+    ensures labels_up { Labels₂ layout.now t b q j vl nl result }
     ensures begins_up { BeginsUp layout.now t b q j begun.old begun.new }
 {
     let u = (b + j + 1) as u32;
@@ -140,13 +140,13 @@ fn label_right(
 ) -> u32
     requires column_at { ColumnAt layout.now t b q }
     requires j_lt_t { j < t }
-    requires entry { Entry layout.now (b + j) vd }
-    requires entry_2 { Entry layout.now (q + j) ln }
-    requires entry_3 { Entry layout.now (b + j + 1) vu }
-    requires entry_4 { Entry layout.now (b + t + 1 + j) rn }
-    requires fact { Labels₂ layout.now t b q j vl nl ul }
+    requires entry_below { Entry layout.now (b + j) vd }
+    requires entry_left { Entry layout.now (q + j) ln }
+    requires entry_above { Entry layout.now (b + j + 1) vu }
+    requires entry_right { Entry layout.now (b + t + 1 + j) rn }
+    requires labels_up { Labels₂ layout.now t b q j vl nl ul }
     requires per_net { PerNet 1000000 begun.old }
-    ensures fact_2 { Labels₃ layout.now t b q j ul result }
+    ensures labels_right { Labels₃ layout.now t b q j ul result }
     ensures begins_right { BeginsRight layout.now t b q j begun.old begun.new }
 {
     let r = (b + t + 1 + j) as u32;
@@ -175,10 +175,10 @@ fn meet(
 ) -> u32
     requires column_at { ColumnAt layout.now t b q }
     requires j_lt_t { j < t }
-    requires entry { Entry layout.now (b + j) vd }
-    requires entry_2 { Entry layout.now (q + j) ln }
-    requires entry_3 { Entry layout.now (b + j + 1) vu }
-    requires entry_4 { Entry layout.now (b + t + 1 + j) rn }
+    requires entry_below { Entry layout.now (b + j) vd }
+    requires entry_left { Entry layout.now (q + j) ln }
+    requires entry_above { Entry layout.now (b + j + 1) vu }
+    requires entry_right { Entry layout.now (b + t + 1 + j) rn }
     requires state { State layout.now t b q j vl lab.old begun.old joined.old }
     ensures { State layout.now t b q (j + 1) result lab.new begun.new joined.new }
 {

@@ -1,7 +1,4 @@
--- The laws of the net report; `Arrays`, `Tests` and `Clauses` are steps of walks by hand.
-pub mod Arrays
-pub mod Tests
-pub mod Clauses
+-- The laws of the net report.
 pub mod Records
 pub mod Tallies
 pub mod WireLengths

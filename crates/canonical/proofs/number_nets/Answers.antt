@@ -27,7 +27,7 @@ pub loop-i-init : goal.loop-i-init
 loop-i-init c = (omega arith, numbered_none _ _ _ c.requires.1)
 
 pub overflow_cast-top : goal.overflow_cast-top
-overflow_cast-top c = omega (arith, c.shared_slice_known-in-loop-i-1.given c.loop-i.i)
+overflow_cast-top c = omega (arith, c.type_inv.top c.loop-i.i)
 
 pub number_pin-given-requires : goal.number_pin-given-requires
 number_pin-given-requires c = (
@@ -37,7 +37,7 @@ number_pin-given-requires c = (
 )
 
 pub overflow_cast-bottom : goal.overflow_cast-bottom
-overflow_cast-bottom c = omega (arith, c.shared_slice_known-in-loop-i-2-1.given c.loop-i.i)
+overflow_cast-bottom c = omega (arith, c.type_inv.bottom c.loop-i.i)
 
 pub number_pin-given-requires-in-loop-i : goal.number_pin-given-requires-in-loop-i
 number_pin-given-requires-in-loop-i c = (

@@ -1,7 +1,7 @@
 -- `canonical::put_channel` meets its contract: the head and the two rows, one behind the other.
 use native.Mathlib.Omega.{arith}
 use Prim.Native.Nat.{ℕ, ◌+◌, ◌*◌}
-use mathlib.Core.List.{◌∷◌, map}
+use mathlib.Core.List.{[], ◌∷◌, map}
 use mathlib.Core.Path.{ap, ◌∙◌}
 use lib.ListN.{length, get_or, length-map}
 use Rattle.grid.proofs.Tables.{table-length}

@@ -20,7 +20,7 @@ loop-i-init c = (
 )
 
 pub overflow_cast-row : goal.overflow_cast-row
-overflow_cast-row c = omega (arith, c.shared_slice_known-in-loop-i-1.given c.loop-i.i)
+overflow_cast-row c = omega (arith, c.type_inv.row c.loop-i.i)
 
 pub offset_bounds-numbers-row : goal.offset_bounds-numbers-row
 offset_bounds-numbers-row c = omega (arith, row-net (goal.at.offset_bounds-numbers-row c).In-loop-i)

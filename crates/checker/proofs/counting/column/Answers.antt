@@ -81,7 +81,7 @@ loop-j-preserved c =
 pub returns : goal.returns
 returns c =
     let i = c.loop-j.invariant in record {
-      kept_2 = kept_column (omega (arith, i.0, c.loop-j-test.false)) i.1.1;
-      labs_2 = (end_state _ _ _ _ _ _ _ _ _ i.1.0 (omega (arith, i.0, c.loop-j-test.false))).0;
-      counted_to_2 = (end_state _ _ _ _ _ _ _ _ _ i.1.0 (omega (arith, i.0, c.loop-j-test.false))).1;
+      kept_after = kept_column (omega (arith, i.0, c.loop-j-test.false)) i.1.1;
+      labs_after = (end_state _ _ _ _ _ _ _ _ _ i.1.0 (omega (arith, i.0, c.loop-j-test.false))).0;
+      counted_after = (end_state _ _ _ _ _ _ _ _ _ i.1.0 (omega (arith, i.0, c.loop-j-test.false))).1;
     }

@@ -9,7 +9,7 @@ use Rattle.checker.proofs.counting.count_pieces.Goals as goal
 pub loop-x-init : goal.loop-x-init
 loop-x-init c =
     let s = c.requires in
-    (pass_start _ _ _ _ _ _ (length-replicate {A = ℕ} 512 0) s.per_net s.per_net_2, kept_none)
+    (pass_start _ _ _ _ _ _ (length-replicate {A = ℕ} 512 0) s.begun_zero s.joined_zero, kept_none)
 
 pub column-kept-requires : goal.column-kept-requires
 column-kept-requires c =
@@ -42,8 +42,8 @@ overflow_add-b-in-loop-x c =
 
 pub loop-x-preserved : goal.loop-x-preserved
 loop-x-preserved c =
-    let (kept, passed) = c.column-kept.ensures in
-    (pass_next _ _ _ _ _ _ _ _ _ c.requires.within c.loop-x.invariant.0 _ _ _ c.loop-x-test.true passed.0 passed.1, kept)
+    let e = c.column-kept.ensures in
+    (pass_next _ _ _ _ _ _ _ _ _ c.requires.within c.loop-x.invariant.0 _ _ _ c.loop-x-test.true e.labs_after e.counted_after, e.kept_after)
 
 pub returns : goal.returns
 returns c =

@@ -17,8 +17,8 @@ blank = record { long = length-replicate {A = ℕ} 257 0; most = λ N l. omega (
 pub count_pieces-loose-requires : goal.count_pieces-loose-requires
 count_pieces-loose-requires c = record {
   within = c.requires;
-  per_net = blank;
-  per_net_2 = blank;
+  begun_zero = blank;
+  joined_zero = blank;
 }
 
 pub find_in_pieces-requires : goal.find_in_pieces-requires
@@ -28,8 +28,7 @@ find_in_pieces-requires c =
 
 pub returns : goal.returns
 returns c =
-    let (loose, counted) = c.count_pieces-loose.ensures in record {
-      split_value = c.find_in_pieces.ensures ∙ least_same 257 _ _
-          (in_pieces-split _ _ _ _ _ c.requires counted);
-      lowest_loose = loose;
+    let e = c.count_pieces-loose.ensures in record {
+      split_value = c.find_in_pieces.ensures ∙ least_same 257 _ _ (in_pieces-split _ _ _ _ _ c.requires e.counted_all);
+      lowest_loose = e.lowest_loose;
     }

@@ -13,7 +13,7 @@ pub loop-i-init : goal.loop-i-init
 loop-i-init c = λ e p l. absurd (omega arith)
 
 pub overflow_cast-all : goal.overflow_cast-all
-overflow_cast-all c = omega (arith, c.shared_slice_known-1.given c.loop-i.i)
+overflow_cast-all c = omega (arith, c.type_inv.layout c.loop-i.i)
 
 pub bounds-known-layout : goal.bounds-known-layout
 bounds-known-layout c =

@@ -58,7 +58,7 @@ loop-x-preserved c =
     let a = c.args in (
       omega arith,
       (
-        rw add-one (omega (arith, c.loop-x.invariant.1.0)),
+        rw (add-one c.loop-x.x) (omega (arith, c.loop-x.invariant.1.0)),
         pins_fine a.top.now a.bottom.now a.t a.layout.now _ _
             c.loop-x.invariant.1.0 c.loop-x.invariant.1.1 (sym c.entry.ensures ∙ c.if-entry.false ∙ c.entry-in-loop-x.ensures)
             (sym c.entry-in-loop-x-2.ensures ∙ c.if-entry-2.false ∙ c.entry-in-loop-x-3.ensures),

@@ -6,10 +6,9 @@ use Rattle.checker.proofs.entries.find_strange.Goals as goal
 
 pub returns-then-all_known : goal.returns-then-all_known
 returns-then-all_known c =
-    let start = c.before.before.before.before.before in
-    let a = start.args in
-    sym (least_none _ _ (c.before.all_Known.ensures c.if1.true))
-    ∙ least-strange a.top.now a.bottom.now a.pins.now a.layout.now start.requires
+    let a = c.args in
+    sym (least_none _ _ (c.all_known.ensures c.if-all_known.true))
+    ∙ least-strange a.top.now a.bottom.now a.pins.now a.layout.now c.requires
 
 pub returns : goal.returns
 returns c =

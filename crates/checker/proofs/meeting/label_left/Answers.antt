@@ -27,17 +27,17 @@ pub join-requires : goal.join-requires
 join-requires c =
     let s = c.requires in
     record {
-      net_bound = net_small _ _ _ _ s.column_at _ _ s.entry_2;
+      net_bound = net_small _ _ _ _ s.column_at _ _ s.entry_left;
       per_net = s.per_net;
     }
 
 -- the clauses by their names
-named-fact-labs-joins_left : {A0 A1 A2 : Type 0} → A0 × (A1 × A2) → record { fact : A0; labs : A1; joins_left : A2 }
-named-fact-labs-joins_left p = record { fact = p.0; labs = p.1.0; joins_left = p.1.1 }
+named-labels_left-labs-joins_left : {A0 A1 A2 : Type 0} → A0 × (A1 × A2) → record { labels_left : A0; labs : A1; joins_left : A2 }
+named-labels_left-labs-joins_left p = record { labels_left = p.0; labs = p.1.0; joins_left = p.1.1 }
 
 pub returns : goal.returns
 returns c =
     let s = c.requires in
-    named-fact-labs-joins_left (left_given _ _ _ _ s.column_at _ s.j_lt_t _ _ _ _ _ _ s.labels s.entry s.entry_2 refl
+    named-labels_left-labs-joins_left (left_given _ _ _ _ s.column_at _ s.j_lt_t _ _ _ _ _ _ s.labels s.entry_below s.entry_left refl
     c.choose-nl.ensures _ _ _
     c.merge.ensures c.join.ensures)

@@ -28,18 +28,18 @@ pub begin-requires : goal.begin-requires
 begin-requires c =
     let s = c.requires in
     record {
-      net_bound = net_small _ _ _ _ s.column_at _ _ s.entry_4;
+      net_bound = net_small _ _ _ _ s.column_at _ _ s.entry_right;
       per_net = s.per_net;
     }
 
 -- the clauses by their names
-named-fact_2-begins_right : {A0 A1 : Type 0} → A0 × A1 → record { fact_2 : A0; begins_right : A1 }
-named-fact_2-begins_right p = record { fact_2 = p.0; begins_right = p.1 }
+named-labels_right-begins_right : {A0 A1 : Type 0} → A0 × A1 → record { labels_right : A0; begins_right : A1 }
+named-labels_right-begins_right p = record { labels_right = p.0; begins_right = p.1 }
 
 pub returns : goal.returns
 returns c =
     let s = c.requires in
-    named-fact_2-begins_right (right_given _ _ _ _ s.column_at _ s.j_lt_t _ _ _ _ _ _ _ _ _ _ s.fact s.entry s.entry_2 s.entry_3
-    s.entry_4
+    named-labels_right-begins_right (right_given _ _ _ _ s.column_at _ s.j_lt_t _ _ _ _ _ _ _ _ _ _ s.labels_up s.entry_below s.entry_left s.entry_above
+    s.entry_right
     c.choose-o.ensures c.choose-p.ensures
     c.choose-rl.ensures _ _ c.begin.ensures)

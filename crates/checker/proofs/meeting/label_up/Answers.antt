@@ -23,17 +23,17 @@ pub begin-requires : goal.begin-requires
 begin-requires c =
     let s = c.requires in
     record {
-      net_bound = net_small _ _ _ _ s.column_at _ _ s.entry_3;
+      net_bound = net_small _ _ _ _ s.column_at _ _ s.entry_above;
       per_net = s.per_net;
     }
 
 -- the clauses by their names
-named-fact_2-begins_up : {A0 A1 : Type 0} → A0 × A1 → record { fact_2 : A0; begins_up : A1 }
-named-fact_2-begins_up p = record { fact_2 = p.0; begins_up = p.1 }
+named-labels_up-begins_up : {A0 A1 : Type 0} → A0 × A1 → record { labels_up : A0; begins_up : A1 }
+named-labels_up-begins_up p = record { labels_up = p.0; begins_up = p.1 }
 
 pub returns : goal.returns
 returns c =
     let s = c.requires in
-    named-fact_2-begins_up (up_given _ _ _ _ s.column_at _ s.j_lt_t _ _ _ _ _ _ _ s.fact s.entry s.entry_2 s.entry_3
+    named-labels_up-begins_up (up_given _ _ _ _ s.column_at _ s.j_lt_t _ _ _ _ _ _ _ s.labels_left s.entry_below s.entry_left s.entry_above
     c.choose-o.ensures
     c.choose-ul.ensures _ _ c.begin.ensures)

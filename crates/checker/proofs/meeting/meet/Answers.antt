@@ -8,49 +8,43 @@ use Rattle.checker.proofs.meeting.meet.Goals as goal
 pub label_left-nl-requires : goal.label_left-nl-requires
 label_left-nl-requires c =
     let s = c.requires in
-    let n = (s.entry, s.entry_2, s.entry_3, s.entry_4, s.state) in
-    let k = n.1.1.1.1 in
     let small = small_right _ _ _ _ s.column_at _ s.j_lt_t in
     record {
       column_at = s.column_at;
       j_lt_t = s.j_lt_t;
-      entry = n.0;
-      entry_2 = n.1.0;
-      labels = k.labels;
-      per_net = per_net_mono _ _ _ k.counted.fits' (omega arith);
+      entry_below = s.entry_below;
+      entry_left = s.entry_left;
+      labels = s.state.labels;
+      per_net = per_net_mono _ _ _ s.state.counted.fits' (omega arith);
     }
 
 pub label_up-ul-requires : goal.label_up-ul-requires
 label_up-ul-requires c =
     let s = c.requires in
-    let n = (s.entry, s.entry_2, s.entry_3, s.entry_4, s.state) in
     let small = small_right _ _ _ _ s.column_at _ s.j_lt_t in
-    let k = per_net_mono _ 1000000 _ n.1.1.1.1.counted.fits (omega arith) in
     record {
       column_at = s.column_at;
       j_lt_t = s.j_lt_t;
-      entry = n.0;
-      entry_2 = n.1.0;
-      entry_3 = n.1.1.0;
-      fact = c.label_left-nl.ensures.fact;
-      per_net = k;
+      entry_below = s.entry_below;
+      entry_left = s.entry_left;
+      entry_above = s.entry_above;
+      labels_left = c.label_left-nl.ensures.labels_left;
+      per_net = per_net_mono _ _ _ s.state.counted.fits (omega arith);
     }
 
 pub label_right-rl-requires : goal.label_right-rl-requires
 label_right-rl-requires c =
     let s = c.requires in
-    let n = (s.entry, s.entry_2, s.entry_3, s.entry_4, s.state) in
     let small = small_right _ _ _ _ s.column_at _ s.j_lt_t in
-    let k = per_net_mono _ 1000000 _ (per_net_grown _ _ _ n.1.1.1.1.counted.fits c.label_up-ul.ensures.begins_up.grown) (omega arith) in
     record {
       column_at = s.column_at;
       j_lt_t = s.j_lt_t;
-      entry = n.0;
-      entry_2 = n.1.0;
-      entry_3 = n.1.1.0;
-      entry_4 = n.1.1.1.0;
-      fact = c.label_up-ul.ensures.fact_2;
-      per_net = k;
+      entry_below = s.entry_below;
+      entry_left = s.entry_left;
+      entry_above = s.entry_above;
+      entry_right = s.entry_right;
+      labels_up = c.label_up-ul.ensures.labels_up;
+      per_net = per_net_mono _ _ _ (per_net_grown _ _ _ s.state.counted.fits c.label_up-ul.ensures.begins_up.grown) (omega arith);
     }
 
 pub offset_bounds-lab-j : goal.offset_bounds-lab-j
@@ -67,5 +61,5 @@ pub returns : goal.returns
 returns c =
     let s = c.requires in
     let l = c.label_left-nl.ensures in
-    next_state _ _ _ _ s.column_at _ s.j_lt_t _ _ _ _ _ _ _ _ _ _ s.state l.labs c.label_right-rl.ensures.fact_2 l.joins_left
+    next_state _ _ _ _ s.column_at _ s.j_lt_t _ _ _ _ _ _ _ _ _ _ s.state l.labs c.label_right-rl.ensures.labels_right l.joins_left
     c.label_up-ul.ensures.begins_up c.label_right-rl.ensures.begins_right

@@ -75,10 +75,10 @@ meet-requires c =
     record {
       column_at = s.column_at;
       j_lt_t = s.j_lt_t;
-      entry = refl;
-      entry_2 = c.entry-ln.ensures;
-      entry_3 = refl;
-      entry_4 = refl;
+      entry_below = refl;
+      entry_left = c.entry-ln.ensures;
+      entry_above = refl;
+      entry_right = refl;
       state = s.state;
     }
 
