@@ -24,7 +24,7 @@ use Rattle.report.specs.declared.NetRecord.{NetRecord}
 use Rattle.report.specs.declared.Drawing.{Drawing}
 use Rattle.report.specs.declared.Drawing.TheVariants.{Absent, Given}
 use Rattle.report.specs.declared.Collected.{Collected}
-use Rattle.report.specs.declared.Reported.TheVariants.{Filled, Refused}
+use Rattle.report.specs.declared.Reported.TheVariants.{Filled}
 use Rattle.report.specs.Report as reporting
 use Rattle.report.specs.Report.{blank_table, number_only, fault_of, answer_of, drawing_number, fault_with, records, refused, reported, collected, table_after}
 use Rattle.report.specs.Working.{refused_with}

@@ -1,6 +1,7 @@
 // The net report: a lent table of net records is filled with the first column, last column and pin count of each net, and, on a drawing that the checker
 // passes, with its wire length.
 #![tactic(auto)]
+
 mod lengths;
 
 ghost use Rattle.std.specs.Prelude.{◌≡◌, ◌++◌, ◌≤◌, length, take, drop};

@@ -1,6 +1,6 @@
 -- `canonical::number_nets` meets its contract: the nets of the columns passed are numbered.
 use native.Mathlib.Omega.{arith}
-use Prim.Native.Nat.{◌<◌, ◌-◌}
+use Prim.Native.Nat.{◌<◌}
 use mathlib.Core.Path.{refl, sym, ◌∙◌}
 use lib.ListN.{get_or, length-set}
 use Rattle.grid.proofs.Tables.{zero_table-length}

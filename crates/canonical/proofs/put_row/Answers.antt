@@ -1,6 +1,6 @@
 -- `canonical::put_row` meets its contract: the numbers passed are put.
 use native.Mathlib.Omega.{arith}
-use Prim.Native.Nat.{◌≤◌, ◌-◌}
+use Prim.Native.Nat.{◌≤◌}
 use lib.ListN.{get_or}
 use Rattle.grid.proofs.Scanning.{none_over}
 use Rattle.record.proofs.Put.{put_none, put_as}

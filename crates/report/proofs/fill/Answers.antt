@@ -14,5 +14,5 @@ loop-i-preserved c =
     let i = c.loop-i.i in (
       omega arith,
       ap (λ (t : List NetRecord). set t i (get_or a.records i zero_record)) c.loop-i.invariant.1
-      ∙ copied_suc a.records a.table.now i (omega arith) (omega arith),
+          ∙ copied_suc a.records a.table.now i (omega arith) (omega arith),
     )

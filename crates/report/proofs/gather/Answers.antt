@@ -1,5 +1,4 @@
 -- `report::gather` meets its contract: the records of the nets passed stand in front of a table of zeros.
-use Prim.Native.Nat.{◌-◌}
 use Rattle.report.specs.Report.{up_to}
 use Rattle.report.specs.Working.{in_tables}
 use Rattle.report.proofs.Records.{stored, stored_all}

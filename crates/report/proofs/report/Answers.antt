@@ -1,7 +1,7 @@
 -- `report::report` meets its contract: what is collected says what is written, and `fill` writes it.
 use mathlib.Core.Path.{refl, ap, ◌∙◌}
 use Rattle.report.specs.Report.{fault_of}
-use Rattle.report.proofs.Answers.{Writes, writes, fault_of-reported}
+use Rattle.report.proofs.Answers.{writes, fault_of-reported}
 use Rattle.report.proofs.report.Goals as goal
 
 pub fill-requires : goal.fill-requires

@@ -1,5 +1,4 @@
 -- `checker::counting::column` meets its contract: before point `j` its state holds.
-use Prim.Native.Nat.{◌-◌}
 use mathlib.Core.Path.{refl}
 use native.Mathlib.Omega.{arith}
 use Rattle.checker.proofs.counting.Counts.{per_net_mono}

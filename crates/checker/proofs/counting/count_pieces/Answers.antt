@@ -1,5 +1,5 @@
 -- `checker::counting::count_pieces` meets its contract: `x` columns are passed.
-use Prim.Native.Nat.{ℕ, ◌-◌}
+use Prim.Native.Nat.{ℕ}
 use native.Mathlib.Omega.{arith}
 use lib.ListN.{length-replicate}
 use Rattle.checker.proofs.counting.Pass.{pass_start, pass_column, pass_small, pass_next, pass_end}

@@ -1,5 +1,4 @@
 -- `checker::counting::find_in_pieces` meets its contract: no net below `n` has more than one piece by the counts.
-use Prim.Native.Nat.{◌-◌}
 use native.Mathlib.Omega.{arith}
 use Rattle.checker.proofs.Least.{none_more, found_at, found_none}
 use Rattle.checker.proofs.counting.Splits.{in_pieces_zero, in_pieces_yes, in_pieces_not}

@@ -1,5 +1,4 @@
 -- `checker::counting::next_meeting` meets its contract: up to point `k` nets only cross.
-use Prim.Native.Nat.{◌-◌}
 use native.Mathlib.Omega.{arith}
 use mathlib.Core.Path.{refl, sym, ◌∙◌}
 use Rattle.checker.proofs.counting.Positions.{room, small_right, small_left}

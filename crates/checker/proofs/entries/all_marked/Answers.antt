@@ -1,5 +1,4 @@
 -- `checker::entries::all_marked` meets its contract: as long as all hold, the entries below `i` are marked.
-use Prim.Native.Nat.{◌-◌}
 use native.Mathlib.Omega.{arith}
 use mathlib.Core.Bool.{false}
 use mathlib.Core.Logic.{by_cases}

@@ -1,5 +1,4 @@
 -- `checker::entries::find_last` meets its contract: no entry below `i` is a horizontal edge of the last column.
-use Prim.Native.Nat.{◌-◌}
 use native.Mathlib.Omega.{arith}
 use Rattle.checker.proofs.Least.{none_more, found_at, found_none}
 use Rattle.checker.proofs.entries.Last.{last_start, last_edge_lem, last_none}

@@ -1,5 +1,4 @@
 -- `checker::entries::find_pin` meets its contract: no pin entry below column `x` is wrong; `b` is its first position.
-use Prim.Native.Nat.{◌-◌}
 use native.Mathlib.Omega.{arith}
 use native.Mathlib.Numerals.{add-one}
 use mathlib.Core.Path.{sym, ◌∙◌}

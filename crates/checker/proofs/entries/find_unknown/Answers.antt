@@ -1,5 +1,4 @@
 -- `checker::entries::find_unknown` meets its contract: no entry below `i` is unknown.
-use Prim.Native.Nat.{◌-◌}
 use native.Mathlib.Omega.{arith}
 use mathlib.Core.Path.{sym, ◌∙◌}
 use Rattle.checker.proofs.Least.{none_more, found_at, found_none}

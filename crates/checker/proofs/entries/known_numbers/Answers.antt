@@ -1,5 +1,4 @@
 -- `checker::entries::known_numbers` meets its contract: the marks below `v` are right.
-use Prim.Native.Nat.{◌-◌}
 use native.Mathlib.Omega.{arith}
 use Rattle.checker.proofs.entries.Nets.{marks_start, marks_more, marks_all}
 use Rattle.checker.proofs.entries.known_numbers.Goals as goal

@@ -1,5 +1,4 @@
 -- `checker::meeting::merge` meets its contract: the labels of the first `k` tracks are changed, the others not yet.
-use Prim.Native.Nat.{◌-◌}
 use native.Mathlib.Omega.{arith}
 use Rattle.checker.proofs.counting.Arrays.{merge_none, merge_hit, merge_miss, merge_same, merge_all}
 use Rattle.checker.proofs.meeting.merge.Goals as goal
@@ -15,8 +14,8 @@ pub loop-k-preserved : goal.loop-k-preserved
 loop-k-preserved c = (
   omega arith,
   elim c.if-lab-k.branch [
-    then-lab-k w ↦ rw w.lab-is
-    (merge_hit _ _ _ _ _ c.loop-k.invariant.1 (omega (arith, c.loop-k.invariant.1.long, c.requires.lab_len)) w.if-lab-k.true)
+    | then-lab-k w ↦ rw w.lab-is
+        (merge_hit _ _ _ _ _ c.loop-k.invariant.1 (omega (arith, c.loop-k.invariant.1.long, c.requires.lab_len)) w.if-lab-k.true)
     | else-lab-k w ↦ rw w.lab-is (merge_miss _ _ _ _ _ c.loop-k.invariant.1 w.if-lab-k.false)
   ],
 )

@@ -1,5 +1,4 @@
 -- `report::lengths::added` meets its contract: the sums of the numbers passed.
-use Prim.Native.Nat.{◌-◌}
 use Rattle.report.specs.Working.{four}
 use Rattle.report.proofs.Tallies.{summed_more}
 use Rattle.grid.proofs.Tables.{zero_table-length}

@@ -1,5 +1,4 @@
 -- `report::lengths::counted` meets its contract: after i entries each number is counted as often as it stands among them.
-use Prim.Native.Nat.{◌-◌}
 use Rattle.report.proofs.Tallies.{none_counted, all_counted}
 use native.Mathlib.Omega.{arith}
 use Rattle.report.proofs.lengths.counted.Goals as goal
