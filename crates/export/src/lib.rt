@@ -1,5 +1,6 @@
 // The calls for other languages: the libraries' answers as numbers. A slice passes as a pointer and a length in elements.
 #![tactic(auto)]
+
 pub mod boards;
 pub mod sweeps;
 
