@@ -1,6 +1,5 @@
 -- The sweeps on t tracks: what a column does, the tracks and the pairs in each gap, the columns, the columns added, the width and the layout.
 use Rattle.std.specs.Prelude.{ℕ, zero, suc, ◌+◌, Bool, true, false, not, ◌&&◌, List, [], ◌++◌, eqb, ltb, length, get_or, replicate}
-use Rattle.grid.specs.Channel
 use Rattle.grid.specs.declared.Family.{Family}
 use Rattle.grid.specs.declared.Family.TheVariants.{TwoPin, ThreePin, ManyPin}
 use Rattle.grid.specs.Channel.{pick, count, left, right, family}
@@ -11,17 +10,11 @@ use Rattle.sweep.specs.declared.Free.{Free}
 use Rattle.sweep.specs.declared.Joint.{Joint}
 use Rattle.sweep.specs.declared.Double.{Double}
 use Rattle.sweep.specs.declared.Move.{Move}
-use Rattle.sweep.specs.Tracks
 use Rattle.sweep.specs.Tracks.{lowest, second, highest, many, lowest_net, clear, verticals, after}
-use Rattle.sweep.specs.Rules
 use Rattle.sweep.specs.Rules.{straight, join_only}
-use Rattle.sweep.specs.TwoPin
 use Rattle.sweep.specs.TwoPin.{choose_two}
-use Rattle.sweep.specs.ManyPin
 use Rattle.sweep.specs.ManyPin.{choose_many}
-use Rattle.sweep.specs.Pairs
 use Rattle.sweep.specs.Pairs.{mate, no_mates, unpair, pair_up, latest_to}
-use Rattle.sweep.specs.ThreePin
 use Rattle.sweep.specs.ThreePin.{still, choose_three}
 
 -- "A pin starts, ends or continues its net": by whether the net has pins before the column and after it. 0 none, 1 starts, 2 continues, 3 ends

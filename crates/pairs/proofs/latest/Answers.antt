@@ -1,8 +1,7 @@
 -- `latest` meets its contract.
 use native.Mathlib.Omega.{arith}
-use Prim.Native.Nat.{ℕ, ◌-◌, ◌%◌}
+use Prim.Native.Nat.{ℕ, ◌%◌}
 use mathlib.Core.Path.{◌≡◌, ap, ◌∙◌, subst}
-use mathlib.Core.Bool.{true}
 use lib.ListN.{get_or}
 use native.Mathlib.Omega.{arith}
 use Rattle.sets.specs.Member.{member}

@@ -1,5 +1,4 @@
 -- `placing::has_pin` meets its contract: by the columns passed.
-use Prim.Native.Nat.{◌-◌}
 use mathlib.Core.Path.{sym, ap, ◌∙◌}
 use mathlib.Core.Bool.{Bool, ◌||◌}
 use lib.Dec.{eqb}

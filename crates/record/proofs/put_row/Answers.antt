@@ -1,6 +1,5 @@
 use mathlib.Core.Path.{refl}
 use native.Mathlib.Omega.{arith}
-use Prim.Native.Nat.{◌-◌}
 use lib.ListN.{length-set}
 use Rattle.record.proofs.Rows.{laid_none, laid_more, laid_all}
 use Rattle.record.proofs.put_row.Goals as goal

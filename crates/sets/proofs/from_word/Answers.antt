@@ -1,5 +1,4 @@
 -- `sets::from_word` meets its contract. The invariant: no member from the start of word i up to the start of word w.
-use Prim.Native.Nat.{◌-◌}
 use native.Mathlib.Omega.{arith}
 use lib.Count.{trailing_le}
 use Rattle.sets.proofs.Members.{clear_more, word_none, word_some, lower, nothing}

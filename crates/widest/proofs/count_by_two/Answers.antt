@@ -1,5 +1,4 @@
 -- `count_by_two` meets its contract. The invariant: the first i places are counted.
-use Prim.Native.Nat.{◌-◌}
 use mathlib.Core.Path.{◌≡◌, refl, sym, ap, ◌∙◌}
 use lib.ListN.{length, length-set}
 use lib.Seq.{take_all}

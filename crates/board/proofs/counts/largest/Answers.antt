@@ -1,5 +1,5 @@
 -- `largest` meets its contract. The invariant: `most` is the largest of the counts at the first k places.
-use Prim.Native.Nat.{ℕ, ◌-◌, max}
+use Prim.Native.Nat.{ℕ, max}
 use lib.ListN.{get_or}
 use mathlib.Core.Path.{◌≡◌, sym, ap, ◌∙◌}
 use Rattle.board.specs.Working.{largest_in}

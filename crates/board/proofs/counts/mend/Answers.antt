@@ -1,5 +1,4 @@
 -- `mend` meets its contract. The invariant: the counts of the gaps from `first` to one before g are mended.
-use Prim.Native.Nat.{◌-◌}
 use Rattle.board.proofs.Loops.{mended_none, mended_next, mended_all}
 use native.Mathlib.Omega.{arith}
 use Rattle.board.proofs.counts.mend.Goals as goal

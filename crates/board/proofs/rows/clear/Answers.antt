@@ -1,5 +1,5 @@
 -- `clear` meets its contract. The invariant: the first i places are cleared.
-use Prim.Native.Nat.{ℕ, ◌-◌}
+use Prim.Native.Nat.{ℕ}
 use mathlib.Core.Path.{◌≡◌, refl, sym, ap, ◌∙◌}
 use lib.ListN.{length, length-set}
 use Rattle.board.proofs.Loops.{cleared_to, clearing_none, clearing_next, clearing_all}

@@ -1,5 +1,4 @@
 -- `first_column` meets its contract. The invariant: the columns 1 to c have no pin of the net.
-use Prim.Native.Nat.{◌-◌}
 use mathlib.Core.Path.{◌≡◌, sym, ap, ◌∙◌}
 use lib.ListN.{length}
 use Rattle.grid.specs.Nets.{is_pinned, first_to, first_column}

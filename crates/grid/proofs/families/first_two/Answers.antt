@@ -1,5 +1,4 @@
 -- `grid::families::first_two` meets its contract: what is found is found in the columns passed.
-use Prim.Native.Nat.{◌-◌}
 use mathlib.Core.Path.{◌≡◌, refl, sym, ap, ◌∙◌}
 use lib.ListN.{length}
 use Rattle.grid.specs.Channel.{first_two_to, pins as pins_of}

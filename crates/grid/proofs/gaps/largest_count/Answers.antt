@@ -1,5 +1,5 @@
 -- `grid::gaps::largest_count` meets its contract: the count is that of the gap passed last, and the largest over those passed.
-use Prim.Native.Nat.{◌+◌, ◌-◌, max}
+use Prim.Native.Nat.{◌+◌, max}
 use mathlib.Core.Path.{◌≡◌, refl, sym, ap, ap₂, ◌∙◌}
 use lib.ListN.{length}
 use native.Mathlib.Numerals.{add-one}

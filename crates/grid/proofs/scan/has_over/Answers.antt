@@ -1,5 +1,4 @@
 -- `grid::scan::has_over` meets its contract: what is found so far, or stands in the rest, stands in the row.
-use Prim.Native.Nat.{◌-◌}
 use mathlib.Core.Path.{refl, ◌∙◌}
 use Rattle.grid.proofs.Scanning.{over_more, over_end}
 use native.Mathlib.Omega.{arith}

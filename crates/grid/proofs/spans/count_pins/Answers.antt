@@ -1,5 +1,5 @@
 -- `grid::spans::count_pins` meets its contract: the pins of the columns passed are counted.
-use Prim.Native.Nat.{◌-◌, ◌≤◌, ◌<◌}
+use Prim.Native.Nat.{◌≤◌, ◌<◌}
 use mathlib.Core.Path.{◌≡◌, sym, ◌∙◌}
 use lib.ListN.{get_or}
 use Rattle.grid.proofs.Scanning.{none_over}

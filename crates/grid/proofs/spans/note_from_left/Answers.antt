@@ -1,5 +1,5 @@
 -- `grid::spans::note_from_left` meets its contract: the columns passed are noted.
-use Prim.Native.Nat.{◌-◌, ◌≤◌, ◌<◌}
+use Prim.Native.Nat.{◌≤◌, ◌<◌}
 use mathlib.Core.Path.{◌≡◌, refl, sym, ◌∙◌}
 use lib.ListN.{get_or}
 use Rattle.grid.proofs.Scanning.{none_over}
