@@ -1,8 +1,6 @@
 -- `listing::list_channel` meets its contract: the rows' refusal, else the text of the drawing that routing leaves.
-use Rattle.grid.specs.Channel.{rows_refused}
-use mathlib.Core.Path.{◌≡◌}
 use Rattle.record.proofs.Put.{put_as}
-use Rattle.listing.proofs.Channels.{Drawable, channel_refused, channel_drawn, put_lists}
+use Rattle.listing.proofs.Channels.{channel_refused, channel_drawn, put_lists}
 use Rattle.listing.proofs.list_channel.Goals as goal
 use Rattle.listing.proofs.list_channel.Goals.{In-Drawn-2}
 

@@ -1,5 +1,4 @@
 use native.Mathlib.Omega.{arith}
-use Prim.Native.Nat.{◌-◌}
 use Rattle.record.proofs.Put.{put_none}
 use Rattle.listing.proofs.Lines.{bytes_more, bytes_room, bytes_all}
 use Rattle.listing.proofs.put_bytes.Goals as goal

@@ -1,5 +1,5 @@
 use native.Mathlib.Omega.{arith}
-use Prim.Native.Nat.{◌+◌, ◌-◌}
+use Prim.Native.Nat.{◌+◌}
 use Rattle.listing.specs.Text.{cells}
 use Rattle.record.proofs.Put.{put_none, put_all, room_before, room_behind, room_one}
 use Rattle.listing.proofs.Lines.{cells_more, cell_room}

@@ -1,6 +1,6 @@
 use native.Mathlib.Nat.{zero-mul}
 use native.Mathlib.Omega.{arith}
-use Prim.Native.Nat.{◌+◌, ◌*◌, ◌-◌, ◌<◌}
+use Prim.Native.Nat.{◌+◌, ◌*◌, ◌<◌}
 use Rattle.listing.specs.Text.{lines}
 use Rattle.record.proofs.Put.{put_none, put_all}
 use Rattle.listing.proofs.Lines.{lines_more, line_room, next_place, column_fits}

@@ -15,7 +15,6 @@ use Rattle.grid.proofs.Tests.{not_both}
 use Rattle.sweep.specs.declared.Action.{Action}
 use Rattle.sweep.specs.declared.Move.{Move}
 use Rattle.sweep.specs.Tracks.{after, verticals}
-use Rattle.sweep.specs.Drawing
 use Rattle.sweep.specs.Drawing.{move_of, move, mates_after, state_by, state, gap, move_at, drawn_by, drawn}
 use Rattle.router.specs.Working.{tracks_in, Holds, RowsAndLasts, Ready, Fitting, FitsAt, Keeps, Mated, forms, AtGap, DrawnTo, with_column}
 use Rattle.sweep.proofs.Columns.Entries.{verticals-length}

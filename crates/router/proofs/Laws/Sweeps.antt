@@ -18,7 +18,7 @@ use Rattle.sweep.specs.declared.Action.{Action}
 use Rattle.sweep.specs.declared.Pin.{Pin}
 use Rattle.sweep.specs.declared.Joint.{Joint}
 use Rattle.sweep.specs.declared.Move.{Move}
-use Rattle.sweep.specs.Tracks.{second, many, after}
+use Rattle.sweep.specs.Tracks.{second, many}
 use Rattle.sweep.specs.TwoPin.{choose_two}
 use Rattle.sweep.specs.ManyPin.{choose_many}
 use Rattle.sweep.specs.Drawing

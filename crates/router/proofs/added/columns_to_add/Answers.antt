@@ -2,9 +2,8 @@
 use Rattle.router.proofs.Laws.Onward.{reached, reached_below, Passed, passed_first, passed_next}
 use Rattle.grid.proofs.Sums.{count_le}
 use Rattle.sets.specs.Member.{member}
-use mathlib.Core.Bool.{true}
 use mathlib.Core.Path.{subst}
-use Prim.Native.Nat.{ℕ, ◌-◌}
+use Prim.Native.Nat.{ℕ}
 use native.Mathlib.Omega.{arith}
 use Rattle.router.proofs.added.columns_to_add.Goals as goal
 

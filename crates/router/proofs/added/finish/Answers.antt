@@ -6,9 +6,8 @@ use Rattle.router.proofs.Laws.Arrays.{own}
 use Rattle.router.specs.Working.{tracks_in}
 use Rattle.sweep.specs.Drawing.{remains}
 use lib.ListN.{length}
-use mathlib.Core.Bool.{true}
 use mathlib.Core.Path.{refl, subst, ◌∙◌}
-use Prim.Native.Nat.{ℕ, ◌+◌, ◌-◌, ◌*◌}
+use Prim.Native.Nat.{ℕ, ◌+◌, ◌*◌}
 use native.Mathlib.Omega.{arith}
 use Rattle.router.proofs.added.finish.Goals as goal
 

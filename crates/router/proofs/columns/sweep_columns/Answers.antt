@@ -5,7 +5,7 @@ use Rattle.grid.proofs.Views.{product_le}
 use lib.ListN.{get_or}
 use mathlib.Core.Path.{◌≡◌, refl, sym, subst, ◌∙◌}
 use mathlib.Core.List.{List}
-use Prim.Native.Nat.{ℕ, ◌+◌, ◌-◌, ◌*◌, ◌≤◌}
+use Prim.Native.Nat.{ℕ, ◌+◌, ◌*◌, ◌≤◌}
 use native.Mathlib.Omega.{arith}
 use Rattle.router.proofs.columns.sweep_columns.Goals as goal
 

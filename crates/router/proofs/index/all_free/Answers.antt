@@ -2,7 +2,7 @@
 use Rattle.router.proofs.Laws.Arrays.{free_none, free_more}
 use Rattle.router.specs.Working.{Frees, blank}
 use mathlib.Core.Path.{◌≡◌, subst}
-use Prim.Native.Nat.{◌-◌, ℕ}
+use Prim.Native.Nat.{ℕ}
 use native.Mathlib.Omega.{arith}
 use Rattle.router.proofs.index.all_free.Goals as goal
 

@@ -4,7 +4,7 @@ use Rattle.router.proofs.Laws.Arrays
 use Rattle.router.specs.Working.{ClearedFrom}
 use mathlib.Core.Path.{◌≡◌, subst, ◌∙◌}
 use native.Mathlib.Nat.{le_refl}
-use Prim.Native.Nat.{◌-◌, ◌+◌, ℕ}
+use Prim.Native.Nat.{◌+◌, ℕ}
 use native.Mathlib.Omega.{arith}
 use Rattle.router.proofs.index.end_between.Goals as goal
 

@@ -5,7 +5,6 @@ use Rattle.sweep.specs.TwoPin
 use Rattle.sweep.specs.Rules
 use mathlib.Core.Path.{refl, sym, ap, ◌∙◌}
 use native.Mathlib.Omega.{arith}
-use borrow.Author.Rules.{rules}
 use Rattle.router.proofs.moves.pair_column.Goals as goal
 
 pub overflow_cast-t : goal.overflow_cast-t

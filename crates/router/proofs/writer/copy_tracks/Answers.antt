@@ -1,6 +1,6 @@
 -- `copy_tracks` meets its contract.
 use Rattle.router.proofs.Laws.Columns.{copied, copied_all}
-use Prim.Native.Nat.{◌+◌, ◌-◌}
+use Prim.Native.Nat.{◌+◌}
 use lib.ListN.{drop, length-set}
 use lib.Seq.{paste-zero}
 use native.Mathlib.Omega.{arith}

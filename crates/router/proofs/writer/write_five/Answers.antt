@@ -1,7 +1,7 @@
 -- `write_five` meets its contract.
 use Rattle.router.proofs.Laws.Columns.{written_none, written_next, written_all}
 use Rattle.grid.specs.Segments.{segment}
-use Prim.Native.Nat.{◌+◌, ◌-◌}
+use Prim.Native.Nat.{◌+◌}
 use native.Mathlib.Omega.{arith}
 use Rattle.router.proofs.writer.write_five.Goals as goal
 

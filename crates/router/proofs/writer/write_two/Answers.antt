@@ -1,7 +1,7 @@
 -- `write_two` meets its contract.
 use Rattle.router.proofs.Laws.Columns.{written_none, written_next, written_all}
 use Rattle.router.specs.Working.{two_runs}
-use Prim.Native.Nat.{◌+◌, ◌-◌}
+use Prim.Native.Nat.{◌+◌}
 use native.Mathlib.Omega.{arith}
 use Rattle.router.proofs.writer.write_two.Goals as goal
 

@@ -1,7 +1,6 @@
 -- `draw` meets its contract. The invariant: i columns, or all that were left, are drawn after column c, up to column e.
 use Rattle.stepwise.proofs.Onwards.{draws_none, draws_next, draws_all, draws_asked}
 use mathlib.Core.Path.{refl, ◌∙◌}
-use Prim.Native.Nat.{◌-◌}
 use native.Mathlib.Omega.{arith}
 use Rattle.stepwise.proofs.columns.draw.Goals as goal
 

@@ -3,7 +3,6 @@ use Rattle.grid.proofs.Places.{no_row-length}
 use Rattle.stepwise.proofs.Begin.{row_none, row_next, row_copied}
 use lib.ListN.{length, length-set}
 use mathlib.Core.Path.{ap, ◌∙◌}
-use Prim.Native.Nat.{◌-◌}
 use native.Mathlib.Omega.{arith}
 use Rattle.stepwise.proofs.rows.copied.Goals as goal
 

@@ -1,6 +1,5 @@
 -- `padded` meets its contract. The invariant: i numbers are copied.
 use Rattle.stepwise.proofs.Begin.{row_none, row_next, row-padded}
-use Prim.Native.Nat.{◌-◌}
 use native.Mathlib.Omega.{arith}
 use Rattle.stepwise.proofs.rows.padded.Goals as goal
 
