@@ -1,6 +1,17 @@
 // Writes the listing of each record on standard input, or the line of its refusal. A record stands after a two-byte count of its bytes, little-endian; the
 // count is no part of it, so that damaged records can be among them. A count that reaches past the input ends the program.
-ghost use Rattle.std.specs.Prelude.{◌+◌, ◌<◌, ◌≤◌, length};
+#![tactic(auto)]
+
+ghost use Rattle.std.specs.Prelude.{◌≡◌, ◌+◌, ◌<◌, ◌≤◌, length};
+
+use std::io;
+
+// Room for the input.
+fn input() -> [u8; 65536]
+    ensures { 65536 ≡ length result }
+{
+    [0u8; 65536]
+}
 
 fn room() -> [u8; listing::ROOM] {
     [0u8; listing::ROOM]
@@ -21,28 +32,29 @@ fn widened(b: u8) -> usize
 }
 
 // The listing of one record, or the line of its refusal.
-fn show(bytes: &[u8]) {
+fn show(rt: &impl Print, bytes: &[u8]) -> io::Result<()> {
     let mut text = room();
     let size = listing::put_output(bytes, &mut text);
-    io::write_all(1, &text[..size]);
+    rt.write_all(&text[..size])
 }
 
 // The listing of each record.
-fn show_all(stream: &[u8]) {
+fn show_all(rt: &impl Print, stream: &[u8]) -> io::Result<()> {
     let mut at = 0;
     while 2 <= stream.len() - at {
         let start = at + 2;
         let size = count_at(stream, at);
         if stream.len() - start < size {
-            return;
+            return Ok(());
         }
-        show(&stream[start..start + size]);
+        show(rt, &stream[start..start + size])?;
         at = start + size;
     }
+    Ok(())
 }
 
-fn main() {
-    let mut stream = io::large_buffer();
-    let n = io::read_full(0, &mut stream);
-    show_all(&stream[..n]);
+fn main(rt: HostRuntime) -> io::Result<()> {
+    let mut stream = input();
+    let n = reading::read_full(&mut rt.stdin(), &mut stream)?;
+    show_all(&rt, &stream[..n])
 }
