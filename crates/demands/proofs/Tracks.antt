@@ -6,7 +6,7 @@ use mathlib.Core.List.{List}
 use native.Mathlib.Omega.{arith}
 use lib.ListN.{length}
 use Rattle.grid.specs.declared.Family.TheVariants.{TwoPin, ThreePin, ManyPin}
-use Rattle.grid.specs.Channel.{density, tracks, rows_refused}
+use Rattle.grid.specs.Channel.{tracks, rows_refused}
 use Rattle.grid.specs.Grid.{Wiring}
 use Rattle.grid.specs.Answers as counting
 use Rattle.grid.proofs.Rows.{RowsFit, rows_fit, rows_more, two_density, three_density, many-density}
