@@ -1,6 +1,7 @@
 /*
  * Gaxwethi: a proved router for knock-knee channels. The calls of the static
- * library libexport.a, which `rt staticlib export` writes to target/staticlib.
+ * library libexport.a, which `rt lib`, run in crates/export, puts into the
+ * folder crates/export/out.
  *
  * A channel of n columns is two rows of numbers, top and bottom, one number
  * for each column: 0 for no pin, else a net number 1 to 256. A net has two or

@@ -19,8 +19,9 @@ import threading
 import channel
 
 ROOT = pathlib.Path(__file__).resolve().parent.parent
+CRATE = ROOT / "crates" / "knee"
+PROGRAM = CRATE / "out" / "knee"
 TARGET = ROOT / "target"
-PROGRAM = TARGET / "bin" / "knee"
 LOG = TARGET / "route.log"
 USAGE = "usage: ./route 'TOP ROW' 'BOTTOM ROW', as ./route '1 2' '2 1'"
 PROVES = f"route: the program is proved and built first, some minutes; the log is {LOG}"
@@ -54,17 +55,17 @@ def record_of(words):
 
 
 def prove(lock):
-    """Has the program proved and built; `rt` skips what is proved."""
+    """Has the program proved and built; `rt` skips what is, and runs the program, here on no input."""
     with open(LOG, "wb") as log:
-        # What `rt` starts keeps the lock, so that it lasts while anything builds, also where this call is ended before.
-        given = {"cwd": ROOT, "stdin": subprocess.DEVNULL, "stdout": log, "stderr": log, "pass_fds": [lock.fileno()]}
+        # `rt` keeps the lock too, so that it lasts while anything builds, also where this call is ended before.
+        given = {"cwd": CRATE, "stdin": subprocess.DEVNULL, "stdout": log, "stderr": log, "pass_fds": [lock.fileno()]}
         try:
-            status = subprocess.run(["rt", "check", "knee"], **given).returncode
+            status = subprocess.run(["rt", "run"], **given).returncode
         except OSError as error:
             raise Stop(FAILED, f"route: rt, the command of the Rattle toolchain: {error.strerror}")
     if status:
         last = LOG.read_text(errors="replace").splitlines()[-20:]
-        raise Stop(FAILED, "\n".join([*last, f"route: the program is not proved; the log is {LOG}"]))
+        raise Stop(FAILED, "\n".join([*last, f"route: the program is not proved, or fails; the log is {LOG}"]))
 
 
 def listing_of(record):

@@ -18,21 +18,27 @@ ROOT = pathlib.Path(__file__).resolve().parent.parent
 CASE_D = bytes.fromhex("0C 00 01 00 02 00 01 00 02 00 02 00 01 00")
 LISTING_D = "density 2 tracks 2 width 3\n1: 2 0 1 | 2 1\n2: 1 2 2 | 1 1\n3: 0 1 0 | 0 0\n"
 
-# Notes each run and whether another one was under way, takes RT_SECONDS, builds the stub of the program.
+# Notes each run, its folder, and whether another one was under way, takes RT_SECONDS, builds the stub of the program and runs it. RT_STATUS other than 0
+# stands for a program that is not proved: none is built.
 RT = """#!/bin/sh
-echo "$@" >> target/calls
-mkdir target/busy || echo overlap >> target/overlaps
-echo 'rt: so many words'
+target=../../target
+echo "$(basename "$PWD") $*" >> $target/calls
+mkdir $target/busy || echo overlap >> $target/overlaps
+echo 'rt: so many words' >&2
 sleep "${RT_SECONDS:-0}"
-mkdir -p target/bin
-cp knee target/bin/knee
-rmdir target/busy
-exit "${RT_STATUS:-0}"
+status="${RT_STATUS:-0}"
+if [ "$status" = 0 ]; then
+    mkdir -p out
+    cp ../../knee out/knee
+fi
+rmdir $target/busy
+[ "$status" = 0 ] || exit "$status"
+exec out/knee
 """
 
 # Keeps the record that it reads and writes KNEE_TEXT.
 KNEE = """#!/bin/sh
-cat > target/record
+cat > "$(dirname "$0")/../../../target/record"
 printf "$KNEE_TEXT"
 exit "${KNEE_STATUS:-0}"
 """
@@ -55,6 +61,7 @@ class Stubbed(unittest.TestCase):
         self.addCleanup(shutil.rmtree, self.root)
         self.target = self.root / "target"
         (self.root / "tools").mkdir()
+        (self.root / "crates" / "knee").mkdir(parents=True)
         for name in ("route", *(f"tools/{tool}.py" for tool in ("route", "channel", "second_channel", "second_record"))):
             shutil.copy(ROOT / name, self.root / name)
         self.env = {"PATH": f"{self.root / 'bin'}:{os.environ['PATH']}", "KNEE_TEXT": LISTING_D}
@@ -74,7 +81,7 @@ class Stubbed(unittest.TestCase):
         self.assertFalse((self.target / "overlaps").exists(), "two runs of rt at once")
         calls = self.target / "calls"
         lines = calls.read_text().splitlines() if calls.exists() else []
-        self.assertEqual(set(lines) - {"check knee"}, set())
+        self.assertEqual(set(lines) - {"knee run"}, set())
         return len(lines)
 
     def test_drawn(self):
@@ -114,7 +121,7 @@ class Stubbed(unittest.TestCase):
         _, _, said = self.route("1 2", "2 1")
         self.assertIn("proved and built first", said)
         self.assertIn(str(log), said)
-        self.assertEqual(log.read_text(), "rt: so many words\n")
+        self.assertEqual(log.read_text(), "rt: so many words\n" + LISTING_D)
         _, _, said = self.route("1 2", "2 1")
         self.assertEqual(said, "")
 
@@ -183,7 +190,13 @@ class Stubbed(unittest.TestCase):
         status, out, said = self.route("1 2", "2 1", RT_STATUS="1")
         self.assertEqual((status, out), (4, ""))
         self.assertIn("rt: so many words\n", said)
-        self.assertIn(f"not proved; the log is {self.target / 'route.log'}", said)
+        self.assertIn(f"not proved, or fails; the log is {self.target / 'route.log'}", said)
+        self.assertFalse((self.target / "record").exists())
+
+    def test_no_longer_proved(self):
+        self.assertEqual(self.route("1 2", "2 1")[0], 0)
+        (self.target / "record").unlink()
+        self.assertEqual(self.route("1 2", "2 1", RT_STATUS="1")[:2], (4, ""))
         self.assertFalse((self.target / "record").exists())
 
     def test_no_toolchain(self):

@@ -2,8 +2,9 @@
  * Routes the channel of case D, top 1 2 and bottom 2 1, checks the drawing and
  * prints it column by column. In the root of the repository:
  *
- *     rt staticlib export
- *     cc -Wall -Iinclude examples/c/case_d.c target/staticlib/libexport.a -o target/case_d
+ *     (cd crates/export && rt lib)
+ *     mkdir -p target
+ *     cc -Wall -Iinclude examples/c/case_d.c crates/export/out/libexport.a -o target/case_d
  *     target/case_d
  */
 

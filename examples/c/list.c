@@ -2,8 +2,9 @@
  * Reads a record from standard input and prints its listing, or why it is
  * refused, as the program knee does. In the root of the repository:
  *
- *     rt staticlib export
- *     cc -Wall -Iinclude examples/c/list.c target/staticlib/libexport.a -o target/list
+ *     (cd crates/export && rt lib)
+ *     mkdir -p target
+ *     cc -Wall -Iinclude examples/c/list.c crates/export/out/libexport.a -o target/list
  *     printf 'top 1 2\nbottom 2 1\n' | python3 tools/channel.py | target/list
  */
 
