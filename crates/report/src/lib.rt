@@ -234,7 +234,7 @@ pub fn report(
     c.answer
 }
 
-// The net report into a table of its own, zeros on refusal: the call over a slice of records, for programs, which cannot lend one.
+// The net report into a table of its own, zeros on refusal: the call over a slice of records, for programs, which hold no table.
 pub fn table_of(top: &[u16], bottom: &[u16], drawing: Drawing, layout: &[u16]) -> Reply
     ensures answer { result.answer ≡ reported top.now bottom.now drawing layout.now 256 }
     ensures fault { fault_of result.answer ≡ fault_with top.now bottom.now drawing layout.now
