@@ -17,7 +17,7 @@ fn bit_of(k: usize) -> usize
     k & 63
 }
 
-// The word w. It takes a slice, since a proof is told a lent slice's length, and that its elements fit, and is not told so of a lent array.
+// The word w of the eight.
 fn word(s: &[u64], w: usize) -> u64
     requires { (length s.now ≡ 8) × (w < 8) }
     ensures { (result ≡ get_or s.now w 0) × (length s.now ≡ 8) }
