@@ -1,6 +1,6 @@
 -- The laws of a channel on the drawing board.
 -- Without    rows without the pins of a net, and the count at a gap without it
--- Loops      what the loops over counts and rows leave
+-- Loops      what the searches for a net's columns find
 -- With       rows with a net added
 -- Stored     the counts stored on a board, and the board as it starts
 -- Made       the board after a change

@@ -7,7 +7,7 @@ use mathlib.Core.List.{List, ◌++◌}
 use native.Mathlib.Omega.{arith}
 use native.Mathlib.Decide.{dec_lt}
 use lib.Dec.{ltb}
-use lib.ListN.{length, get_or, replicate, length-replicate, replicate-append-replicate, drop_of_length-le, get_or-eq_default}
+use lib.ListN.{length, get_or, take, replicate, length-replicate, replicate-append-replicate, drop_of_length-le, get_or-eq_default}
 use lib.Seq.{ext_get_or}
 use Rattle.grid.specs.Channel.{pick, bit, times, count, pins, left, right, is_open, open_at, largest, density}
 use Rattle.grid.specs.Places.{padded, no_row}
@@ -18,7 +18,9 @@ use Rattle.grid.proofs.Tables.{length_from, from_at}
 use Rattle.grid.proofs.OpenNets.{none_open}
 use Rattle.board.specs.Changes.{Channel, empty_channel}
 use Rattle.board.specs.Board.{Board, board_with, counts_of, board_of, StandsFor, board_refused, start_channel, gap_count}
-use Rattle.board.specs.Working.{largest_in}
+use Rattle.std.specs.List.{fold}
+use Rattle.std.proofs.lemmas.List.Sums.{fold_more}
+use native.Mathlib.Numerals.{add-one}
 
 -- THE COUNTS OF A CHANNEL
 
@@ -37,16 +39,21 @@ pub counts_by : (ch : Channel) (l : List ℕ) → length l ≡ 256 → ((g : ℕ
 counts_by ch l e h = ext_get_or 0 l (counts_of ch) (e ∙ sym (counts_length ch)) (λ g b. h g (omega arith) ∙ sym (counts_at ch g (omega arith)))
 
 -- the largest of them: place 0 holds 0
-largest_stored : (ch : Channel) (k : ℕ) → k < 256 → largest_in (counts_of ch) (suc k) ≡ largest ch.top ch.bottom k
-unfolding largest_in largest
-largest_stored ch zero h = ap (max 0) (counts_at ch 0 (omega arith) ∙ none_open ch.top ch.bottom)
-largest_stored ch (suc k) h = ap₂ max (largest_stored ch k (omega arith)) (counts_at ch (suc k) h)
+largest_stored : (ch : Channel) (k : ℕ) → k < 256 → fold max 0 (take (k + 1) (counts_of ch)) ≡ largest ch.top ch.bottom k
+unfolding largest
+largest_stored ch zero h =
+    fold_more max 0 (counts_of ch) 0 0 (omega (arith, counts_length ch)) ∙ ap (max 0) (counts_at ch 0 (omega arith) ∙ none_open ch.top ch.bottom)
+largest_stored ch (suc k) h =
+    fold_more max 0 (counts_of ch) (suc k) 0 (omega (arith, counts_length ch))
+    ∙ ap₂ max (ap (λ (n : ℕ). fold max 0 (take n (counts_of ch))) (sym (add-one k)) ∙ largest_stored ch k (omega arith)) (counts_at ch (suc k) h)
 
 -- those of n columns
-largest_of : (ch : Channel) (n : ℕ) → n ≤ 256 → largest_in (counts_of ch) n ≡ largest ch.top ch.bottom (n - 1)
-unfolding largest_in largest
+largest_of : (ch : Channel) (n : ℕ) → n ≤ 256 → fold max 0 (take n (counts_of ch)) ≡ largest ch.top ch.bottom (n - 1)
+unfolding largest
 largest_of ch zero h = refl
-largest_of ch (suc k) h = let e : k ≡ suc k - 1 = omega arith in largest_stored ch k (omega arith) ∙ ap (largest ch.top ch.bottom) e
+largest_of ch (suc k) h =
+    let e : k ≡ suc k - 1 = omega arith in
+    ap (λ (n : ℕ). fold max 0 (take n (counts_of ch))) (sym (add-one k)) ∙ largest_stored ch k (omega arith) ∙ ap (largest ch.top ch.bottom) e
 
 -- GAPS WITH NO OPEN NET
 
@@ -158,9 +165,10 @@ module _ (ch : Channel) (x : Board) (h : StandsFor ch x) (n : ℕ) (en : n ≡ m
   held_columns = omega (arith, columns_of_lem x ch h.board, h.short)
 
   -- the largest stored count is the density
-  pub stored_density : largest_in x.counts n ≡ density ch.top ch.bottom
+  pub stored_density : fold max 0 (take n x.counts) ≡ density ch.top ch.bottom
   unfolding density
-  stored_density = ap₂ largest_in (counts_of_lem x ch h.board) held_columns ∙ largest_of ch (length ch.top) h.short
+  stored_density =
+      ap₂ (λ (l : List ℕ) (k : ℕ). fold max 0 (take k l)) (counts_of_lem x ch h.board) held_columns ∙ largest_of ch (length ch.top) h.short
 
   -- a stored count is that of its gap
   pub stored_count : (gap : ℕ) → gap < n → get_or x.counts gap 0 ≡ gap_count ch gap

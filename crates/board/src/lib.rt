@@ -1,16 +1,18 @@
 // A channel on the drawing board: nets of two pins are added and dropped, and the count of open nets at each gap is stored and mended by each change. The
-// caller holds the board, a number and three arrays, and lends it to each call. Every call ends on any board; what it promises, it promises of a board that
-// the call before left.
+// caller holds the board, a number and three arrays, and lends it to each call, part by part, as C passes it. Every call ends on any board; what it promises,
+// it promises of a board that the call before left.
 #![tactic(auto)]
 
-mod changes;
 mod counts;
 mod rows;
 
 ghost use Rattle.std.specs.Prelude.{◌≡◌, List, ℕ};
 ghost use Rattle.grid.specs.Channel.{density as density_of};
+ghost use Rattle.grid.specs.Refusals.{number_of};
 ghost use Rattle.board.specs.Changes.{Channel, Add, Drop};
 ghost use Rattle.board.specs.Board.{board_with, board_of, StandsFor, board_refused, start_channel, Makes, gap_count};
+
+use grid::Refusal;
 
 // Begins a board of n columns without pins. One of over 256 is refused, and the board has no columns then.
 pub fn start(
@@ -19,8 +21,8 @@ pub fn start(
     top: &mut [u16; 256],
     bottom: &mut [u16; 256],
     counts: &mut [u16; 256],
-) -> u16
-    ensures number { result ≡ board_refused n }
+) -> Result<(), Refusal>
+    ensures number { number_of result ≡ board_refused n }
     ensures board { board_with columns.new top.new bottom.new counts.new ≡ board_of (start_channel n) }
 {
     *top = grid::no_row();
@@ -28,10 +30,10 @@ pub fn start(
     *counts = grid::no_row();
     if 256 < n {
         *columns = 0;
-        return 5;
+        return Err(Refusal::TooManyColumns);
     }
     *columns = n;
-    0
+    Ok(())
 }
 
 // Adds a net at two terminals: columns from 1, side 0 for the top and 1 for the bottom.
@@ -45,13 +47,25 @@ pub fn add(
     side1: u16,
     column2: usize,
     side2: u16,
-) -> u16
-    ensures { Makes (Add net column1 side1 column2 side2) result (board_with columns top.old bottom.old counts.old)
+) -> Result<(), Refusal>
+    ensures { Makes (Add net column1 side1 column2 side2) (number_of result) (board_with columns top.old bottom.old counts.old)
         (board_with columns top.new bottom.new counts.new) }
 {
-    changes::add_net(
-        columns, top, bottom, counts, net, column1, side1, column2, side2,
-    )
+    let n = grid::columns_held(columns);
+    placing::place_net(
+        &mut top[..n],
+        &mut bottom[..n],
+        0,
+        net,
+        column1,
+        side1,
+        column2,
+        side2,
+    )?;
+    let first = column1.min(column2);
+    let last = column1.max(column2);
+    counts::mend(counts, first, last, |count| count.saturating_add(1));
+    Ok(())
 }
 
 // Drops a net.
@@ -61,11 +75,24 @@ pub fn drop(
     bottom: &mut [u16; 256],
     counts: &mut [u16; 256],
     net: u16,
-) -> u16
-    ensures { Makes (Drop net) result (board_with columns top.old bottom.old counts.old)
+) -> Result<(), Refusal>
+    ensures { Makes (Drop net) (number_of result) (board_with columns top.old bottom.old counts.old)
         (board_with columns top.new bottom.new counts.new) }
 {
-    changes::drop_net(columns, top, bottom, counts, net)
+    if net == 0 || 256 < net {
+        return Err(Refusal::NetNumber);
+    }
+    let n = grid::columns_held(columns);
+    let (Some(first), Some(last)) = (
+        rows::first_column(&top[..n], &bottom[..n], net),
+        rows::last_column(&top[..n], &bottom[..n], net),
+    ) else {
+        return Err(Refusal::AbsentNet);
+    };
+    counts::mend(counts, first, last, |count| count.saturating_sub(1));
+    rows::clear(&mut top[..n], net);
+    rows::clear(&mut bottom[..n], net);
+    Ok(())
 }
 
 // The density: the largest stored count.
@@ -73,7 +100,7 @@ pub fn density(columns: usize, counts: &[u16; 256]) -> u16
     ensures { (ch : Channel) (top bottom : List ℕ) → StandsFor ch (board_with columns top bottom counts.now)
         → result ≡ density_of ch.top ch.bottom }
 {
-    counts::largest(counts, grid::columns_held(columns))
+    counts::largest(&counts[..grid::columns_held(columns)])
 }
 
 // The stored count of a gap; 0 outside 1 to one less than the columns.

@@ -9,25 +9,20 @@ use native.Mathlib.Numerals.{add-one}
 use native.Mathlib.Decide.{ℕ_discrete}
 use lib.Dec.{eqb}
 use lib.ListN.{length, get_or, set, length-set, length-append}
-use lib.Seq.{get_or-set_same, get_or-set_other, set-get_or}
+use lib.Seq.{get_or-set_same, get_or-set_other}
 use Rattle.grid.specs.Channel.{pick}
 use Rattle.grid.specs.Nets.{table, zero_table}
 use Rattle.grid.specs.Working.{Rows}
 use Rattle.grid.proofs.Scanning.{none_over}
-use Rattle.grid.proofs.Tests.{eq-eqb, ne_eqb, not_both, Same, same, diff, same_by}
+use Rattle.grid.proofs.Tests.{Same, same, diff, same_by}
 use Rattle.grid.proofs.Tables.{zero_table-length, table_none, at_net, cleared}
 use Rattle.grid.proofs.Counting.{zeros}
 use Rattle.canonical.specs.Renaming.{rank, with_net, nets_to, net_list, new_number}
-use Rattle.canonical.specs.Working.{given_after, number_after, Ranked}
+use Rattle.canonical.specs.Working.{Ranked}
 use Rattle.canonical.proofs.Ranks.{rank_old, rank_new, WithNet, empty, known, new, with_net_by, with_net-length}
 use Rattle.canonical.proofs.Order.{nets_none, nets_length}
 
 module _ (l : List ℕ) (given : ℕ) (numbers : List ℕ) (h : Ranked l given numbers) (net : ℕ) (small : net ≤ 256) where
-  -- a net that has a number, or no net: all stays
-  kept : (q : Bool) → q ≡ false → Ranked l (pick q (given + 1) given) (set numbers net (pick q (pick q (given + 1) given) (get_or numbers net 0)))
-  kept true e = absurd (not_both refl e)
-  kept false e = subst (λ t. Ranked l given t) (sym (set-get_or numbers net 0)) h
-
   module _ (n : net ≢ 0) where
     -- the number that it has
     old : get_or numbers net 0 ≡ rank net l
@@ -49,24 +44,31 @@ module _ (l : List ℕ) (given : ℕ) (numbers : List ℕ) (h : Ranked l given n
               get_or-set_other numbers net v (given + 1) 0 (λ e. d (ap (λ w. rank w l) e ∙ b)) ∙ h.ranks.at v a s ∙ sym (rank_old v l (net ∷ []) d)
 
       -- a net that has none
-      added : (q : Bool) → q ≡ true
-          → Ranked (l ++ (net ∷ [])) (pick q (given + 1) given) (set numbers net (pick q (pick q (given + 1) given) (get_or numbers net 0)))
-      added true e =
+      added : Ranked (l ++ (net ∷ [])) (given + 1) (set numbers net (given + 1))
+      added =
           record {
             ranks = record { size = length-set numbers net (given + 1) ∙ h.ranks.size; at = new_at };
             count = omega (arith, h.count, length-append l (net ∷ []));
             none = get_or-set_other numbers net 0 (given + 1) 0 (λ z. n (sym z)) ∙ h.none;
           }
-      added false e = absurd (not_both e refl)
 
-  -- the pin's net numbered
-  pub pin_numbered : (r x : ℕ) → r ≡ given_after (get_or numbers net 0) given → x ≡ number_after (get_or numbers net 0) r → Ranked (with_net l net) r (set numbers net x)
-  pin_numbered r x e f = rw (f, e) (go (with_net l net) (with_net_by l net))
+  -- a pin whose net has a number, or that is no pin
+  pub pin_known : get_or numbers net 0 ≢ 0 → Ranked (with_net l net) given numbers
+  pin_known a = go (with_net l net) (with_net_by l net)
     where
-      go : (m : List ℕ) → WithNet l net m → Ranked m (given_after (get_or numbers net 0) given) (set numbers net (number_after (get_or numbers net 0) (given_after (get_or numbers net 0) given)))
-      go m (empty a) = kept _ (ne_eqb (get_or numbers net 0) 0 (λ z. let y = ap (λ w. get_or numbers w 0) (sym a) in let x : ⊥ = omega (arith, h.none) in x))
-      go m (known a b) = kept _ (ne_eqb (get_or numbers net 0) 0 (λ z. b (sym (old a) ∙ z)))
-      go m (new a b) = added a b _ (eq-eqb (get_or numbers net 0) 0 (old a ∙ b))
+      go : (m : List ℕ) → WithNet l net m → Ranked m given numbers
+      go m (empty e) = h
+      go m (known d b) = h
+      go m (new d b) = absurd (a (old d ∙ b))
+
+  -- a pin whose net has none
+  pub pin_new : get_or numbers net 0 ≡ 0 → Ranked (with_net l net) (given + 1) (set numbers net (given + 1))
+  pin_new a = go (with_net l net) (with_net_by l net)
+    where
+      go : (m : List ℕ) → WithNet l net m → Ranked m (given + 1) (set numbers net (given + 1))
+      go m (empty e) = let y = ap (λ w. get_or numbers w 0) e in absurd (omega (arith, h.none))
+      go m (known d b) = absurd (b (sym (old d) ∙ a))
+      go m (new d b) = added d b
 
 -- the two pins of a column are at most 256
 pub column_small : (top bottom : List ℕ) → Rows top bottom → (i : ℕ) → (get_or top i 0 ≤ 256) × (get_or bottom i 0 ≤ 256)
@@ -88,11 +90,12 @@ module _ (top bottom : List ℕ) where
       }
 
   -- one column more
-  pub numbered_more : (i p q g : ℕ) (numbers : List ℕ) → p ≡ get_or top i 0 → q ≡ get_or bottom i 0 → Ranked (with_net (with_net (nets_to top bottom i) p) q) g numbers
-      → Ranked (nets_to top bottom (i + 1)) g numbers
+  pub numbered_more : (i j p q g : ℕ) (numbers : List ℕ) → j ≡ i + 1 → p ≡ get_or top i 0 → q ≡ get_or bottom i 0
+      → Ranked (with_net (with_net (nets_to top bottom i) p) q) g numbers → Ranked (nets_to top bottom j) g numbers
   unfolding nets_to
-  numbered_more i p q g numbers e f h =
-      subst (λ l. Ranked l g numbers) (ap₂ (λ x y. with_net (with_net (nets_to top bottom i) x) y) e f ∙ sym (ap (nets_to top bottom) (add-one i))) h
+  numbered_more i j p q g numbers n e f h =
+      subst (λ l. Ranked l g numbers)
+      (ap₂ (λ x y. with_net (with_net (nets_to top bottom i) x) y) e f ∙ sym (ap (nets_to top bottom) (add-one i)) ∙ sym (ap (nets_to top bottom) n)) h
 
   -- how many numbers are given
   pub given_few : (i g : ℕ) (numbers : List ℕ) → i < 256 → Ranked (nets_to top bottom i) g numbers → g ≤ 510
@@ -102,11 +105,10 @@ module _ (top bottom : List ℕ) where
   given_next i p g numbers s h = omega (arith, h.count, with_net-length (nets_to top bottom i) p, nets_length top bottom i)
 
   -- all columns, and no number for 0
-  pub numbered_all : (i g : ℕ) (numbers : List ℕ) → i ≤ length top → length top ≤ i → Ranked (nets_to top bottom i) g numbers
+  pub numbered_all : (i g : ℕ) (numbers : List ℕ) → i ≡ length top → Ranked (nets_to top bottom i) g numbers
       → set numbers 0 0 ≡ table (new_number top bottom)
   unfolding new_number net_list
-  numbered_all i g numbers a b h =
-      let e : i ≡ length top = omega arith in
+  numbered_all i g numbers e h =
       cleared (new_number top bottom) numbers (record { size = h.ranks.size; at = λ v p q. h.ranks.at v p q ∙ ap (λ k. rank v (nets_to top bottom k)) e })
 
 -- the table by a net of at most 256, or 0

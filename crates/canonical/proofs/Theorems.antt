@@ -11,7 +11,7 @@ use lib.ListN.{length, get_or, take, drop, length-map, length-append}
 use Rattle.grid.specs.declared.Family.TheVariants.{TwoPin, ThreePin, ManyPin}
 use Rattle.grid.specs.Channel.{pick, count, pins, pins_within, first_two_to, density, family, tracks_of, tracks, rows_refused}
 use Rattle.grid.proofs.Rows.{RowsFit, rows_fit, rows_short}
-use Rattle.record.specs.declared.Reading.TheVariants.{Channel}
+use Rattle.std.specs.Prelude.{Ok}
 use Rattle.record.specs.Record.{record_read, top_row, bottom_row, laid, record_of}
 use Rattle.record.proofs.Words.{Small, record_read_lem, record_top, record_bottom}
 use Rattle.canonical.specs.Renaming.{new_number, new_top, new_bottom, IsNet, Renames}
@@ -34,7 +34,7 @@ module _ (top bottom : List ℕ) (fit : RowsFit top bottom) where
 
 -- "Reading the bytes back gives the renamed channel"
 pub reads_back_lem : (top bottom : List ℕ) → rows_refused top bottom 256 ≡ 0
-    → (record_read (canonical top bottom) ≡ Channel (length top))
+    → (record_read (canonical top bottom) ≡ Ok (length top))
     × (top_row (canonical top bottom) ≡ new_top top bottom)
     × (bottom_row (canonical top bottom) ≡ new_bottom top bottom)
 unfolding canonical
@@ -44,7 +44,7 @@ reads_back_lem top bottom e =
     let k : length (new_top top bottom) ≤ 256 = omega (arith, length-map top (new_number top bottom), rows_short top bottom 256 e) in
     let a = row_small top bottom fit top in
     let b = row_small top bottom fit bottom in (
-      record_read_lem (new_top top bottom) (new_bottom top bottom) m k a b ∙ ap Channel (length-map top (new_number top bottom)),
+      record_read_lem (new_top top bottom) (new_bottom top bottom) m k a b ∙ ap Ok (length-map top (new_number top bottom)),
       record_top (new_top top bottom) (new_bottom top bottom) m k a b,
       record_bottom (new_top top bottom) (new_bottom top bottom) m k a b,
     )

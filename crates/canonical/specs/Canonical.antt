@@ -1,25 +1,14 @@
 -- Document 02, Job 6: the bytes of a channel's one spelling, the answer of `write`, and what it leaves in the lent slice.
-use Rattle.std.specs.Prelude.{ℕ, zero, suc, ◌+◌, ◌*◌, List, ltb, length}
+use Rattle.std.specs.Prelude.{ℕ, ◌+◌, ◌*◌, List, ltb, length, Result}
 use Rattle.grid.specs.Channel.{pick, rows_refused}
-use Rattle.grid.specs.Refusals.{first_refusal, if_accepted}
+use Rattle.grid.specs.declared.refusals.Refusal.{Refusal}
+use Rattle.grid.specs.Refusals.{first_refusal, if_accepted, figures_or, answer_of}
 use Rattle.record.specs.Record.{record_of, laid}
-use Rattle.canonical.specs.declared.Written.{Written}
-use Rattle.canonical.specs.declared.Written.TheVariants.{Bytes, Refused}
 use Rattle.canonical.specs.Renaming.{new_top, new_bottom}
 
--- the number of an answer, "The number on acceptance is 0", and the bytes written, 0 on refusal
-abbrev pub number_of : Written → ℕ
-number_of (Bytes n) = 0
-number_of (Refused k) = k
-
-abbrev pub length_of : Written → ℕ
-length_of (Bytes n) = n
-length_of (Refused k) = 0
-
--- the answer with a number and a record of n bytes
-abbrev pub written_by : (number n : ℕ) → Written
-written_by zero n = Bytes n
-written_by (suc k) n = Refused (suc k)
+-- the bytes written of an answer, 0 on refusal
+abbrev pub length_of : Result ℕ Refusal → ℕ
+length_of r = figures_or 0 r
 
 module _ (top bottom : List ℕ) where
   -- "Write a channel as a record of kind 1 with its nets renumbered": the bytes
@@ -35,8 +24,8 @@ module _ (top bottom : List ℕ) where
   refused lent = first_refusal (rows_refused top bottom 256) (pick (ltb lent record_size) 18 0)
 
   -- the answer
-  unfoldable pub answer : (lent : ℕ) → Written
-  answer lent = written_by (refused lent) record_size
+  unfoldable pub answer : (lent : ℕ) → Result ℕ Refusal
+  answer lent = answer_of (refused lent) record_size
 
   -- the bytes of a slice that held `old`: the record, and "Bytes behind the record keep their contents"; all of them on refusal
   unfoldable pub bytes_after : (old : List ℕ) → List ℕ

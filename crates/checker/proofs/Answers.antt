@@ -8,37 +8,53 @@ use lib.ListN.{length, get_or, get_or-eq_default}
 use lib.Dec.{eqb, ltb}
 use native.Mathlib.Omega.{arith}
 use native.Mathlib.Decide.{dec_le, dec_lt}
-use Rattle.grid.specs.declared.RowCheck.{RowCheck}
-use Rattle.grid.specs.declared.RowCheck.TheVariants.{Fit, Refused}
-use Rattle.grid.specs.declared.Size.{Size}
+use Rattle.std.specs.Prelude.{Some, None, Ok, Err}
+use Rattle.std.proofs.Common.{rules}
+use Rattle.grid.specs.declared.NetFacts.{NetFacts}
+use Rattle.grid.specs.declared.refusals.Refusal.{Refusal}
 use Rattle.grid.specs.Channel.{pick, over, count, pins, rows_refused}
-use Rattle.grid.specs.Nets.{table}
-use Rattle.grid.specs.Refusals.{first_refusal, if_accepted}
-use Rattle.grid.specs.Answers.{row_check}
-use Rattle.grid.specs.Answers as rows
+use Rattle.grid.specs.Refusals.{first_refusal, number}
+use Rattle.grid.specs.Answers.{facts_check}
 use Rattle.grid.proofs.Tests.{eq-eqb, ne_eqb, lt-ltb, le-ltb}
 use Rattle.grid.proofs.Rows.{rows_fit}
 use Rattle.grid.proofs.Tables.{table-length, table_at}
-use Rattle.grid.proofs.Answers.{first_here, check_number, told, accepted_new}
-use Rattle.grid.proofs.Answers as answers
-use Rattle.checker.specs.declared.Checked.{Checked}
-use Rattle.checker.specs.declared.Checked.TheVariants.{Passed}
-use Rattle.checker.specs.Check.{number_of, place_of, fault_column, fault_row, checked_by, least, some, strange, mispinned, leaves_last, split, loose_net}
+use Rattle.grid.proofs.Numbers.{number_refusal, refusal_number, number_nonzero, pick_within, first_within}
+use Rattle.grid.proofs.Answers.{first_here, rows_within, told_facts}
+use Rattle.checker.specs.Check.{Checked, number_of, place_of, fault_column, fault_row, checked_by, least, some, strange, mispinned, leaves_last, split, loose_net}
 use Rattle.checker.specs.Check.{pin_fault, first_mispinned, entries_refused, drawing_refused, refused, place, column, row, checked}
 use Rattle.checker.specs.declared.ends.Loose.{Loose}
-use Rattle.checker.specs.Working.{refused_at, answer_with, entries_checked, drawing_checked, PinTable, Within, refused_loose, LowestLoose}
-use Rattle.checker.proofs.Least.{least_all}
+use Rattle.checker.specs.Working.{fault_at, fault_of_end, refused_at, first_below, answer_with, entries_checked, drawing_checked, PinTable, Within, LowestEnd}
+use Rattle.checker.proofs.Least.{of_none, first_is, first_no}
 use Rattle.checker.proofs.entries.Nets.{strange_not}
 use Rattle.checker.proofs.Terminals.{PinFault, is_14, is_19, is_20, pin_fault_by}
 
 -- the numbers of an answer made of them, where all are 0 on acceptance
 made_of :
-    (k p c r : ℕ) → (k ≡ 0 → (p ≡ 0) × (c ≡ 0) × (r ≡ 0))
+    (k p c r : ℕ) → k ≤ 24 → (k ≡ 0 → (p ≡ 0) × (c ≡ 0) × (r ≡ 0))
     → (number_of (checked_by k p c r) ≡ k) × (place_of (checked_by k p c r) ≡ p) × (fault_column (checked_by k p c r) ≡ c) × (fault_row (checked_by k p c r) ≡ r)
-made_of zero p c r z = let (a, b, d) = z refl in (refl, sym a, sym b, sym d)
-made_of (suc k) p c r z = (refl, refl, refl, refl)
+made_of zero p c r l z = let (a, b, d) = z refl in (refl, sym a, sym b, sym d)
+made_of (suc k) p c r l z = (number_refusal (suc k) (omega arith) l, refl, refl, refl)
+
+-- the table has a wrong pin edge's
+fault_within : (top bottom : List ℕ) (t : ℕ) (D : List ℕ) (p : ℕ) → pin_fault top bottom t D p ≤ 24
+fault_within top bottom t D p = go _ (pin_fault_by top bottom t D p)
+  where
+    go : (k : ℕ) → PinFault k → k ≤ 24
+    go k is_14 = omega arith
+    go k is_19 = omega arith
+    go k is_20 = omega arith
 
 module _ (top bottom : List ℕ) (w t : ℕ) (D : List ℕ) where
+  -- the table has the drawing's
+  pub drawing_within : drawing_refused top bottom w t D ≤ 24
+  unfolding drawing_refused entries_refused
+  drawing_within = search (rules, pick_within, fault_within) depth 12
+
+  -- and the whole call's
+  refused_within : refused top bottom w t D ≤ 24
+  unfolding refused
+  refused_within = first_within (rows_refused top bottom 256) _ (rows_within top bottom 256) drawing_within
+
   -- only 13 to 17, 19 and 20 have a place
   pub no_place_else : (k : ℕ) → (k < 13) ⊎ ((k ≡ 18) ⊎ (20 < k)) → place top bottom w t D k ≡ 0
   unfolding place
@@ -71,28 +87,29 @@ module _ (top bottom : List ℕ) (w t : ℕ) (D : List ℕ) where
   unfolding checked
   check_parts =
       let k = refused top bottom w t D in
-      made_of k (place top bottom w t D k) (column top bottom w t D k) (row top bottom w t D k)
+      made_of k (place top bottom w t D k) (column top bottom w t D k) (row top bottom w t D k) refused_within
       (λ e. let (c, r) = no_point_else k (omega arith) in (no_place_else k (inl (omega arith)), c, r))
 
   -- what the checker promises of them
-  pub check_promise : (r : Checked) → r ≡ checked top bottom w t D
-      → (r ≡ checked top bottom w t D) × ((number_of r ≡ refused top bottom w t D) × ((place_of r ≡ place top bottom w t D (number_of r))
-      × ((fault_column r ≡ column top bottom w t D (number_of r)) × (fault_row r ≡ row top bottom w t D (number_of r)))))
+  pub check_promise :
+      (r : Checked) → r ≡ checked top bottom w t D
+      → record {
+        answer : r ≡ checked top bottom w t D;
+        number : number_of r ≡ refused top bottom w t D;
+        place : place_of r ≡ place top bottom w t D (number_of r);
+        column : fault_column r ≡ column top bottom w t D (number_of r);
+        row : fault_row r ≡ row top bottom w t D (number_of r);
+      }
   check_promise r e =
       let (a, b, c, d) = check_parts in
-      let n = ap number_of e ∙ a in (
-        e,
-        (
-          n,
-          (
-            ap place_of e ∙ b ∙ ap (λ (k : ℕ). place top bottom w t D k) (sym n),
-            (
-              ap fault_column e ∙ c ∙ ap (λ (k : ℕ). column top bottom w t D k) (sym n),
-              ap fault_row e ∙ d ∙ ap (λ (k : ℕ). row top bottom w t D k) (sym n),
-            ),
-          ),
-        ),
-      )
+      let n = ap number_of e ∙ a in
+      record {
+        answer = e;
+        number = n;
+        place = ap place_of e ∙ b ∙ ap (λ (k : ℕ). place top bottom w t D k) (sym n);
+        column = ap fault_column e ∙ c ∙ ap (λ (k : ℕ). column top bottom w t D k) (sym n);
+        row = ap fault_row e ∙ d ∙ ap (λ (k : ℕ). row top bottom w t D k) (sym n);
+      }
 
   -- one number, one answer
   same_answer : (k n : ℕ) (r : Checked) → n ≡ k → r ≡ answer_with top bottom w t D k → r ≡ answer_with top bottom w t D n
@@ -151,22 +168,19 @@ module _ (top bottom : List ℕ) (w t : ℕ) (D : List ℕ) (r : Checked) where
             same_answer top bottom w t D (entries_refused top bottom w t D) (drawing_refused top bottom w t D) r
             (rw (le-ltb w (length top) a, le-ltb 511 w b, le-ltb 511 t c, eq-eqb (length D) (w * (2 * t + 1)) d)) is
 
--- a search that found number p below n
-some_found : (n : ℕ) (P : ℕ → Bool) (p : ℕ) → p ≡ least n P → p < n → some n P ≡ true
-some_found n P p e l = lt-ltb (least n P) n (omega arith)
-
--- and one that found none
-none_found : (n : ℕ) (P : ℕ → Bool) (p : ℕ) → p ≡ least n P → n ≤ p → some n P ≡ false
-none_found n P p e l = le-ltb (least n P) n (omega arith)
-
-module _ (top bottom : List ℕ) (w t : ℕ) (D : List ℕ) (e : ℕ) (x : e ≡ least (length D) (strange top bottom D)) where
+module _ (top bottom : List ℕ) (w t : ℕ) (D : List ℕ) where
   -- 13
-  pub entry_at : (r : Checked) → e < length D → r ≡ refused_at 13 e → r ≡ entries_checked top bottom w t D
+  pub entry_at : (e : ℕ) (r : Checked) → Some e ≡ first_below (length D) (strange top bottom D) → r ≡ refused_at 13 e → r ≡ entries_checked top bottom w t D
   unfolding entries_refused place
-  entry_at r l is =
-      at_place top bottom w t D 12 (entries_refused top bottom w t D) e r (omega arith) (rw (some_found (length D) (strange top bottom D) e x l)) x is
+  entry_at e r x is =
+      let (s, o) = first_is _ _ e x in
+      at_place top bottom w t D 12 (entries_refused top bottom w t D) e r (omega arith) (rw s) o is
 
-  module _ (e' : length D ≤ e) where
+  module _ (x : None ≡ first_below (length D) (strange top bottom D)) where
+    -- past 13
+    no_entry : some (length D) (strange top bottom D) ≡ false
+    no_entry = first_no _ _ x
+
     -- the entries are nets, so they are at most 256
     pub within : (table : List ℕ) → PinTable top bottom table → length D ≡ w * (2 * t + 1) → w ≤ 511 → t ≤ 511 → Within D w t
     within table K d b c = record { size = d; width_fits = b; high = c; nets = small }
@@ -179,64 +193,61 @@ module _ (top bottom : List ℕ) (w t : ℕ) (D : List ℕ) (e : ℕ) (x : e ≡
             (λ k.
             ⊎_elim (λ (z : get_or D i 0 ≡ 0). omega arith)
             (λ (z : 0 < pins top bottom (get_or D i 0)). omega (arith, K.none (get_or D i 0) (omega arith)))
-            (strange_not top bottom D i (least_all (length D) (strange top bottom D) (omega arith) i l))))
+            (strange_not top bottom D i (of_none (length D) (strange top bottom D) no_entry i l))))
             (λ l. omega (arith, get_or-eq_default D 0 {n = i} (omega arith)))
 
-    -- past 13
-    no_entry : some (length D) (strange top bottom D) ≡ false
-    no_entry = none_found (length D) (strange top bottom D) e x e'
+    -- 14, 19 or 20
+    pub pin_at_lem :
+        (p k : ℕ) (r : Checked) → Some p ≡ first_below (length D) (mispinned top bottom t D) → k ≡ pin_fault top bottom t D p → r ≡ refused_at k p
+        → r ≡ entries_checked top bottom w t D
+    unfolding entries_refused
+    pin_at_lem p k r y f is =
+        let (s, o) = first_is _ _ p y in
+        at_fault top bottom w t D k (entries_refused top bottom w t D) p r (rw f (pin_fault_by top bottom t D p)) (rw (no_entry, s, ← o, f)) o is
 
-    module _ (p : ℕ) (y : p ≡ least (length D) (mispinned top bottom t D)) where
-      -- 14, 19 or 20
-      pub pin_at_lem : (k : ℕ) (r : Checked) → p < length D → k ≡ pin_fault top bottom t D p → r ≡ refused_at k p → r ≡ entries_checked top bottom w t D
-      unfolding entries_refused
-      pin_at_lem k r l f is =
-          at_fault top bottom w t D k (entries_refused top bottom w t D) p r (rw f (pin_fault_by top bottom t D p))
-          (rw (no_entry, some_found (length D) (mispinned top bottom t D) p y l, ← y, f)) y is
+    module _ (y : None ≡ first_below (length D) (mispinned top bottom t D)) where
+      -- past these
+      no_pin_lem : some (length D) (mispinned top bottom t D) ≡ false
+      no_pin_lem = first_no _ _ y
 
-      module _ (p' : length D ≤ p) (q : ℕ) (z : q ≡ least (length D) (leaves_last w t D)) where
-        -- past these
-        no_pin_lem : some (length D) (mispinned top bottom t D) ≡ false
-        no_pin_lem = none_found (length D) (mispinned top bottom t D) p y p'
+      -- 15
+      pub last_at : (q : ℕ) (r : Checked) → Some q ≡ first_below (length D) (leaves_last w t D) → r ≡ refused_at 15 q → r ≡ entries_checked top bottom w t D
+      unfolding entries_refused place
+      last_at q r z is =
+          let (s, o) = first_is _ _ q z in
+          at_place top bottom w t D 14 (entries_refused top bottom w t D) q r (omega arith) (rw (no_entry, no_pin_lem, s)) o is
 
-        -- 15
-        pub last_at : (r : Checked) → q < length D → r ≡ refused_at 15 q → r ≡ entries_checked top bottom w t D
+      module _ (z : None ≡ first_below (length D) (leaves_last w t D)) where
+        -- past 15
+        no_last : some (length D) (leaves_last w t D) ≡ false
+        no_last = first_no _ _ z
+
+        -- 16
+        pub pieces_at : (n : ℕ) (r : Checked) → Some n ≡ first_below 257 (split t D) → r ≡ refused_at 16 n → r ≡ entries_checked top bottom w t D
         unfolding entries_refused place
-        last_at r l is =
-            at_place top bottom w t D 14 (entries_refused top bottom w t D) q r (omega arith)
-            (rw (no_entry, no_pin_lem, some_found (length D) (leaves_last w t D) q z l)) z is
+        pieces_at n r x is =
+            let (s, o) = first_is _ _ n x in
+            at_place top bottom w t D 15 (entries_refused top bottom w t D) n r (omega arith) (rw (no_entry, no_pin_lem, no_last, s)) o is
 
-        module _ (q' : length D ≤ q) (n : ℕ) (s : n ≡ least 257 (split t D)) where
-          -- past 15
-          no_last : some (length D) (leaves_last w t D) ≡ false
-          no_last = none_found (length D) (leaves_last w t D) q z q'
+        module _ (s : None ≡ first_below 257 (split t D)) where
+          -- past 16
+          no_piece : some 257 (split t D) ≡ false
+          no_piece = first_no _ _ s
 
-          -- 16
-          pub pieces_at : (r : Checked) → n < 257 → r ≡ refused_at 16 n → r ≡ entries_checked top bottom w t D
-          unfolding entries_refused place
-          pieces_at r l is =
-              at_place top bottom w t D 15 (entries_refused top bottom w t D) n r (omega arith)
-              (rw (no_entry, no_pin_lem, no_last, some_found 257 (split t D) n s l)) s is
+          -- 17
+          pub ends_at : (o : Loose) → LowestEnd w t D o → Err (fault_of_end o) ≡ entries_checked top bottom w t D
+          unfolding entries_refused place column row
+          ends_at o f =
+              same_answer top bottom w t D 17 (entries_refused top bottom w t D) (Err (fault_of_end o))
+              (rw (no_entry, no_pin_lem, no_last, no_piece, lt-ltb (least 257 (loose_net w t D)) 257 (omega (arith, f.lowest, f.is_net))))
+              (rw (f.column, f.row, f.lowest))
 
-          module _ (n' : 257 ≤ n) (o : Loose) (f : LowestLoose w t D o) where
-            -- past 16
-            no_piece : some 257 (split t D) ≡ false
-            no_piece = none_found 257 (split t D) n s n'
-
-            -- 17
-            pub ends_at : o.net < 257 → refused_loose o ≡ entries_checked top bottom w t D
-            unfolding entries_refused place column row
-            ends_at l =
-                same_answer top bottom w t D 17 (entries_refused top bottom w t D) (refused_loose o)
-                (rw (no_entry, no_pin_lem, no_last, no_piece, some_found 257 (loose_net w t D) o.net f.net l))
-                (rw (f.column l, f.row l, f.net))
-
-            -- none
-            pub all_passed : 257 ≤ o.net → Passed ≡ entries_checked top bottom w t D
-            unfolding entries_refused
-            all_passed l =
-                same_answer top bottom w t D 0 (entries_refused top bottom w t D) Passed
-                (rw (no_entry, no_pin_lem, no_last, no_piece, none_found 257 (loose_net w t D) o.net f.net l)) refl
+          -- none
+          pub all_passed : some 257 (loose_net w t D) ≡ false → Ok tt ≡ entries_checked top bottom w t D
+          unfolding entries_refused
+          all_passed l =
+              same_answer top bottom w t D 0 (entries_refused top bottom w t D) (Ok tt)
+              (rw (no_entry, no_pin_lem, no_last, no_piece, l)) refl
 
 -- the rows' numbers are at most 7
 pub rows_low : (top bottom : List ℕ) (most : ℕ) → rows_refused top bottom most ≤ 7
@@ -255,13 +266,12 @@ rows_low top bottom most =
 module _ (top bottom : List ℕ) where
   -- 4 to 7
   pub refused-checked :
-      (w t : ℕ) (D : List ℕ) (r : Checked) (answered : RowCheck) (k j : ℕ)
-      → answered ≡ row_check top bottom 256 → answered ≡ Refused j → k ≡ rows.number_of answered → r ≡ refused_at k 0 → r ≡ checked top bottom w t D
+      (w t : ℕ) (D : List ℕ) (r : Checked) (e : Refusal) → number e ≡ rows_refused top bottom 256 → r ≡ Err (fault_at e 0) → r ≡ checked top bottom w t D
   unfolding checked refused
-  refused-checked w t D r answered k j e f n is = go k (n ∙ ap rows.number_of e ∙ check_number top bottom 256) is
+  refused-checked w t D r e n is = go (number e) n (is ∙ ap (λ (e : Refusal). Err (fault_at e 0)) (sym (refusal_number e)))
     where
       not_zero : rows_refused top bottom 256 ≢ 0
-      not_zero = answers.refused top bottom 256 answered j e f
+      not_zero z = number_nonzero e (n ∙ z)
 
       go :
           (k : ℕ) → k ≡ rows_refused top bottom 256 → r ≡ refused_at k 0
@@ -272,10 +282,10 @@ module _ (top bottom : List ℕ) where
           (omega (arith, rows_low top bottom 256))
           (first_here (rows_refused top bottom 256) (drawing_refused top bottom w t D) not_zero ∙ sym o) i
 
-  module _ (answered : RowCheck) (s : Size) (e : answered ≡ row_check top bottom 256) (f : answered ≡ Fit s) where
+  module _ (f : NetFacts) (e : Ok f ≡ facts_check top bottom 256) where
     -- the rows are accepted
     accepted_rows : rows_refused top bottom 256 ≡ 0
-    accepted_rows = (told top bottom 256 answered s e f).number
+    accepted_rows = (told_facts top bottom 256 (Ok f) f e refl).0
 
     -- accepted rows: the drawing is checked
     pub accepted_checked : (w t : ℕ) (D : List ℕ) (r : Checked) → r ≡ drawing_checked top bottom w t D → r ≡ checked top bottom w t D
@@ -285,11 +295,9 @@ module _ (top bottom : List ℕ) where
         (ap (λ (k : ℕ). first_refusal k (drawing_refused top bottom w t D)) accepted_rows) is
 
     -- with the table of their pins
-    pub known : (new old : List ℕ) → new ≡ if_accepted (rows.number_of answered) (table (pins top bottom)) old → PinTable top bottom new
-    known new old o =
-        let n : rows.number_of answered ≡ 0 = ap rows.number_of e ∙ check_number top bottom 256 ∙ accepted_rows in
-        let x : new ≡ table (pins top bottom) = o ∙ accepted_new (rows.number_of answered) (table (pins top bottom)) old n in
-        rw x
+    pub known : PinTable top bottom f.pins
+    known =
+        rw (ap (λ (f : NetFacts). f.pins) (told_facts top bottom 256 (Ok f) f e refl).1)
         (record {
           figures = record { size = table-length (pins top bottom); at = table_at (pins top bottom) };
           none = (rows_fit top bottom accepted_rows).small;

@@ -1,14 +1,23 @@
 -- The least number that passes a test, and searches for it from below.
-use Prim.Native.Nat.{ℕ, zero, suc, ◌+◌, ◌≤◌, ◌<◌}
-use mathlib.Core.Path.{◌≡◌, refl, sym}
+use Prim.Native.Nat.{ℕ, zero, suc, ◌+◌, ◌-◌, ◌≤◌, ◌<◌}
+use mathlib.Core.Path.{◌≡◌, refl, sym, ◌∙◌, ap}
 use mathlib.Core.Logic.{◌≢◌, ◌↔◌, by_cases}
-use mathlib.Core.Bool.{Bool, true, false}
+use mathlib.Core.Bool.{Bool, true, false, cond}
+use mathlib.Core.List.{List}
+use lib.ListN.{length, get_or}
 use lib.Dec.{ltb}
 use native.Mathlib.Omega.{arith}
-use native.Mathlib.Decide.{ℕ_discrete, dec_le}
+use native.Mathlib.Nat.{zero-add}
+use native.Mathlib.Decide.{ℕ_discrete, dec_le, dec_lt}
+use Rattle.std.specs.Prelude.{Option, Some, None, position, nat_lt}
+use Rattle.std.specs.List.{position_or_len}
+use Rattle.std.proofs.lemmas.Option.{none-some, same_Some}
+use Rattle.std.proofs.lemmas.List.Sums.{fails_before_first}
+use Rattle.std.proofs.lemmas.List.Quantifiers.{position-Some}
 use Rattle.grid.specs.Channel.{pick}
 use Rattle.grid.proofs.Tests.{lt-ltb, le-ltb, ltb-true, ltb-false, not_both}
 use Rattle.checker.specs.Check.{least, some}
+use Rattle.checker.specs.Working.{first_below}
 
 -- n if none passes
 pub least_none : (n : ℕ) (P : ℕ → Bool) → ((k : ℕ) → k < n → P k ≡ false) → least n P ≡ n
@@ -114,9 +123,18 @@ unfolding least
 least_same zero P Q h = refl
 least_same (suc n) P Q h = rw (least_same n P Q (λ k l. h k (omega arith)), h n (omega arith))
 
+-- nor do the searches for it differ
+pub first_same : (n : ℕ) (P Q : ℕ → Bool) → ((k : ℕ) → k < n → P k ≡ Q k) → first_below n P ≡ first_below n Q
+unfolding first_below
+first_same n P Q h = ap (λ (k : ℕ). pick (ltb k n) (Some k) None) (least_same n P Q h)
+
 -- no number below i passes
 pub record NoneBelow (P : ℕ → Bool) (i : ℕ) : Type 0 where
   pub none : (k : ℕ) → k < i → P k ≡ false
+
+-- none is below 0
+none_yet : {P : ℕ → Bool} → NoneBelow P 0
+none_yet = record { none = λ k l. absurd (omega arith) }
 
 -- nor i
 pub none_more : (P : ℕ → Bool) (i : ℕ) → NoneBelow P i → P i ≡ false → NoneBelow P (i + 1)
@@ -126,6 +144,65 @@ none_more P i n e = record { none = λ k l. by_cases (ℕ_discrete k i) (λ x. r
 pub found_at : (n : ℕ) (P : ℕ → Bool) (i : ℕ) → NoneBelow P i → i < n → P i ≡ true → i ≡ least n P
 found_at n P i b l e = sym (least_at n P i l e b.none)
 
--- a search that finds none
-pub found_none : (n : ℕ) (P : ℕ → Bool) (i : ℕ) → NoneBelow P i → n ≤ i → n ≡ least n P
-found_none n P i b l = sym (least_none n P (λ k m. b.none k (omega arith)))
+module _ (n : ℕ) (P : ℕ → Bool) where
+  -- a search that finds i
+  pub first_found : (i : ℕ) → NoneBelow P i → i < n → P i ≡ true → Some i ≡ first_below n P
+  unfolding first_below
+  first_found i b l e = let o = found_at n P i b l e in rw (lt-ltb (least n P) n (omega arith), ← o)
+
+  -- one that finds none
+  pub first_none : (i : ℕ) → NoneBelow P i → n ≤ i → None ≡ first_below n P
+  unfolding first_below
+  first_none i b l = rw (none_of n P (λ k m. b.none k (omega arith)))
+
+  -- what a search says: of the number that it finds
+  pub first_is : (i : ℕ) → Some i ≡ first_below n P → (some n P ≡ true) × (i ≡ least n P)
+  unfolding first_below
+  first_is i e = go (some n P) refl e
+    where
+      go : (q : Bool) → some n P ≡ q → Some i ≡ pick q (Some (least n P)) None → (some n P ≡ true) × (i ≡ least n P)
+      go true o e = (o, same_Some _ _ e)
+      go false o e = absurd (none-some _ (sym e))
+
+  -- and where it finds none
+  pub first_no : None ≡ first_below n P → some n P ≡ false
+  unfolding first_below
+  first_no e = go (some n P) refl e
+    where
+      go : (q : Bool) → some n P ≡ q → None ≡ pick q (Some (least n P)) None → some n P ≡ false
+      go true o e = absurd (none-some _ e)
+      go false o e = o
+
+  -- a search in a list that begins at number a
+  module _ (a : ℕ) (b : NoneBelow P a) {X : Type 0} (p : X → Bool) (xs : List X) (d : X) (tests : (k : ℕ) → k < length xs → p (get_or xs k d) ≡ P (a + k)) where
+    below_start : (i : ℕ) → i ≤ length xs → ((k : ℕ) → k < i → p (get_or xs k d) ≡ false) → NoneBelow P (a + i)
+    below_start i l h = record {
+      none = λ k m.
+          by_cases (dec_lt k a) (λ z. b.none k z)
+          (λ z.
+          let e : a + (k - a) ≡ k = omega arith in
+          rw e at (sym (tests (k - a) (omega arith)) ∙ h (k - a) (omega arith)));
+    }
+
+    pub position_found : (i : ℕ) → a + length xs ≤ n → Some i ≡ position p xs → Some (a + i) ≡ first_below n P
+    position_found i l e =
+        let (k, y, h) = position-Some p xs i d (sym e) in
+        first_found (a + i) (below_start i (omega arith) h) (omega arith) (sym (tests i k) ∙ y)
+
+    pub position_none : n ≤ a + length xs → None ≡ position p xs → None ≡ first_below n P
+    position_none l e = first_none (a + length xs) (below_start (length xs) (omega arith) (λ k m. fails_before_first p xs k d (omega (arith, all)))) l
+      where
+        all : length xs ≤ position_or_len p xs
+        all = go (nat_lt (position_or_len p xs) (length xs)) refl e
+          where
+            go : (q : Bool) → nat_lt (position_or_len p xs) (length xs) ≡ q → None ≡ cond q (Some (position_or_len p xs)) None → length xs ≤ position_or_len p xs
+            go true o e = absurd (none-some _ e)
+            go false o e = ltb-false (position_or_len p xs) (length xs) o
+
+-- a search in a whole list
+pub position_first : {X : Type 0} (p : X → Bool) (xs : List X) (d : X) {P : ℕ → Bool} → ((k : ℕ) → k < length xs → p (get_or xs k d) ≡ P k) → position p xs ≡ first_below (length xs) P
+position_first p xs d {P} tests = go (position p xs) refl
+  where
+    go : (o : Option ℕ) → o ≡ position p xs → o ≡ first_below (length xs) P
+    go (Some i) e = rw (zero-add i) at (position_found (length xs) P 0 none_yet p xs d (λ k l. rw (zero-add k) (tests k l)) i (omega arith) e)
+    go None e = position_none (length xs) P 0 none_yet p xs d (λ k l. rw (zero-add k) (tests k l)) (omega arith) e

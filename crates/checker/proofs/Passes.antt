@@ -14,7 +14,7 @@ use Rattle.grid.specs.Grid.{OnePiece, NoLooseEnd, vertical_of, horizontal_of, Wi
 use Rattle.grid.proofs.Tests.{eq-eqb, eqb_diff, eqb-true, le-ltb, ltb-false, not-false, or_false, pick_past}
 use Rattle.grid.proofs.Answers.{first_past}
 use Rattle.grid.proofs.Rows.{RowsFit, rows_fit}
-use Rattle.checker.specs.declared.Checked.TheVariants.{Passed}
+use Rattle.std.specs.Prelude.{Ok}
 use Rattle.checker.specs.Check.{number_of, some, wrong_width, many_tracks, wrong_size, strange, mispinned, leaves_last, split, loose_net}
 use Rattle.checker.specs.Check.{pin_fault, first_mispinned, entries_refused, drawing_refused, refused, checked}
 use Rattle.checker.specs.Working.{answer_with}
@@ -199,7 +199,7 @@ module _ (top bottom : List ℕ) (w t : ℕ) (D : List ℕ) where
   )
 
   -- only a drawing that passes has the number 0
-  pub passed_number : (number_of (checked top bottom w t D) ≡ 0) ↔ (checked top bottom w t D ≡ Passed)
+  pub passed_number : (number_of (checked top bottom w t D) ≡ 0) ↔ (checked top bottom w t D ≡ Ok tt)
   unfolding checked
   passed_number = (
     λ e.
@@ -209,7 +209,7 @@ module _ (top bottom : List ℕ) (w t : ℕ) (D : List ℕ) where
   )
 
   -- so the checker passes a drawing precisely then
-  pub passes_solutions : (checked top bottom w t D ≡ Passed) ↔ ((rows_refused top bottom 256 ≡ 0) × (w ≤ 511) × (t ≤ 511) × Solution top bottom w t D)
+  pub passes_solutions : (checked top bottom w t D ≡ Ok tt) ↔ ((rows_refused top bottom 256 ≡ 0) × (w ≤ 511) × (t ≤ 511) × Solution top bottom w t D)
   passes_solutions = (
     λ e. zero_passes.0 (sym (check_parts top bottom w t D).0 ∙ ap number_of e),
     λ s. passed_number.0 ((check_parts top bottom w t D).0 ∙ zero_passes.1 s),

@@ -1,40 +1,52 @@
 -- Document 01, "Refused, by place", and document 02, Jobs 1 and 8: the checker's number, "Checked from the top down", its place, column and row, for the
 -- rows, the width w, the number of tracks t and the lent layout D. A position p is counted from 0; it lies in column p / (2t + 1), counted from 0, and is
 -- entry p % (2t + 1) of it.
-use Rattle.std.specs.Prelude.{ℕ, zero, suc, ◌+◌, ◌*◌, ◌/◌, ◌%◌, Bool, true, false, not, ◌&&◌, ◌||◌, List, length, get_or, eqb, ltb}
+use Rattle.std.specs.Prelude.{ℕ, zero, suc, ◌+◌, ◌*◌, ◌/◌, ◌%◌, Bool, true, false, not, ◌&&◌, ◌||◌, List, length, get_or, eqb, ltb, Result, Ok, Err}
 use Rattle.std.proofs.Common.{arith}
 use Rattle.grid.specs.Channel.{pick, pins, rows_refused}
-use Rattle.grid.specs.Refusals.{first_refusal}
+use Rattle.grid.specs.Refusals.{first_refusal, number, refusal}
 use Rattle.grid.specs.Grid.{vertical_of, horizontal_of, OnePiece, edges_at}
 use Rattle.pieces.proofs.Whole.{whole?}
-use Rattle.checker.specs.declared.Checked.{Checked}
-use Rattle.checker.specs.declared.Checked.TheVariants.{Passed, Refused}
+use Rattle.checker.specs.declared.Fault.{Fault}
+use Rattle.checker.specs.declared.Told.{Told}
+
+-- THE ANSWER: nothing for a drawing that passes, or the fault of a refused one
+abbrev pub Checked : Type 0
+Checked = Result (Unit {0}) Fault
 
 -- THE ANSWER'S NUMBERS
 -- "a definition gives this paper's number and values for each of the enum's cases": the number, "The number on acceptance is 0."
 abbrev pub number_of : Checked → ℕ
-number_of Passed = 0
-number_of (Refused f) = f.number
+number_of (Ok p) = 0
+number_of (Err f) = number f.refusal
 
 -- and the place: "its place is 0 otherwise"
 abbrev pub place_of : Checked → ℕ
-place_of Passed = 0
-place_of (Refused f) = f.place
+place_of (Ok p) = 0
+place_of (Err f) = f.place
 
 -- "two further numbers give the column and row … and are 0 in every other case": the column
 abbrev pub fault_column : Checked → ℕ
-fault_column Passed = 0
-fault_column (Refused f) = f.column
+fault_column (Ok p) = 0
+fault_column (Err f) = f.column
 
 -- and the row
 abbrev pub fault_row : Checked → ℕ
-fault_row Passed = 0
-fault_row (Refused f) = f.row
+fault_row (Ok p) = 0
+fault_row (Err f) = f.row
+
+-- all four of a fault, and of an answer
+abbrev pub told : Fault → Told
+told f = record { number = number f.refusal; place = f.place; column = f.column; row = f.row }
+
+abbrev pub told_of : Checked → Told
+told_of (Ok p) = record { number = 0; place = 0; column = 0; row = 0 }
+told_of (Err f) = told f
 
 -- the answer with a number, a place, a column and a row: "A refusal returns its number and zeros for … every other figure but the place."
 abbrev pub checked_by : (number place column row : ℕ) → Checked
-checked_by zero place column row = Passed
-checked_by (suc k) place column row = Refused (record { number = suc k; place = place; column = column; row = row })
+checked_by zero place column row = Ok tt
+checked_by (suc k) place column row = Err (record { refusal = refusal (suc k); place = place; column = column; row = row })
 
 -- THE LEAST
 -- "the lowest entry position", "the lowest net number": the least number below n that passes a test, else n

@@ -1,19 +1,30 @@
 -- What the private functions of the checker promise each other. No promise of a public call rests on these.
-use Rattle.std.specs.Prelude.{ℕ, suc, ◌+◌, ◌*◌, ◌-◌, ◌/◌, ◌≤◌, ◌<◌, min, ◌≡◌, ◌≢◌, Bool, true, false, not, ◌&&◌, ◌||◌, List, length, get_or, eqb, ltb}
+use Rattle.std.specs.Prelude.{ℕ, suc, ◌+◌, ◌*◌, ◌-◌, ◌/◌, ◌≤◌, ◌<◌, min, ◌≡◌, ◌≢◌, Option, Some, None, Bool, true, false, not, ◌&&◌, ◌||◌, List, length, get_or, eqb, ltb, Err}
 use Rattle.grid.specs.Channel.{pick, bit, pins}
 use Rattle.grid.specs.Working.{ByNet}
 use Rattle.pieces.specs.Labels.{net_of, sub, after_left, after_up, after_right, after_points, left_from, labelled, tally, roots, lost}
-use Rattle.checker.specs.declared.Checked.{Checked}
-use Rattle.checker.specs.declared.Checked.TheVariants.{Refused}
+use Rattle.grid.specs.declared.refusals.Refusal.{Refusal}
+use Rattle.grid.specs.declared.refusals.Refusal.TheVariants.{LooseEnd}
+use Rattle.grid.specs.Refusals.{refusal}
+use Rattle.checker.specs.declared.Fault.{Fault}
 use Rattle.checker.specs.declared.ends.Loose.{Loose}
-use Rattle.checker.specs.Check.{checked_by, entries_refused, drawing_refused, place, column, row}
-use Rattle.checker.specs.Check.{least, loose_at, loose_net, loose_column, loose_track}
+use Rattle.checker.specs.Check.{Checked, checked_by, entries_refused, drawing_refused, place, column, row}
+use Rattle.checker.specs.Check.{least, some, loose_at, loose_net, loose_column, loose_track}
 use Rattle.checker.specs.Faults.{Before}
 
+-- SEARCHES
+-- the least number below n that passes a test, if one does
+unfoldable pub first_below : (n : ℕ) → (ℕ → Bool) → Option ℕ
+first_below n P = pick (some n P) (Some (least n P)) None
+
 -- ANSWERS
--- the refusal with a number and a place, no loose end
+-- a refusal and its place, no loose end
+abbrev pub fault_at : Refusal → (place : ℕ) → Fault
+fault_at r p = record { refusal = r; place = p; column = 0; row = 0 }
+
+-- the answer with a number and a place
 abbrev pub refused_at : (number place : ℕ) → Checked
-refused_at k p = Refused (record { number = k; place = p; column = 0; row = 0 })
+refused_at k p = Err (fault_at (refusal k) p)
 
 module _ (top bottom : List ℕ) (w t : ℕ) (D : List ℕ) where
   -- the answer with a number
@@ -55,10 +66,6 @@ pub record Within (D : List ℕ) (w t : ℕ) : Type 0 where
   pub width_fits : w ≤ 511
   pub high : t ≤ 511
   pub nets : (i : ℕ) → get_or D i 0 ≤ 256
-
--- v is the entry at position p
-abbrev pub Entry : (D : List ℕ) (p v : ℕ) → Type 0
-Entry D p v = v ≡ net_of D p
 
 -- b is the first entry of a column, q the first horizontal entry of the one before
 pub record ColumnAt (D : List ℕ) (t b q : ℕ) : Type 0 where
@@ -255,12 +262,18 @@ pub record Kept (t : ℕ) (D : List ℕ) (x j : ℕ) (s : Loose) : Type 0 where
   pub lower : (N : ℕ) → N < s.net → Clean t D N x j
   pub first : s.net < 257 → FirstKept t D s.net x j s.column s.row
 
--- and in the end: the lowest net with a loose end, else 257, and the column and row of its first
-pub record LowestLoose (w t : ℕ) (D : List ℕ) (s : Loose) : Type 0 where
-  pub net : s.net ≡ least 257 (loose_net w t D)
-  pub column : s.net < 257 → s.column ≡ suc (loose_column w t D s.net)
-  pub row : s.net < 257 → s.row ≡ suc (loose_track w t D s.net)
+-- the lowest net with a loose end, and the column and row of its first
+pub record LowestEnd (w t : ℕ) (D : List ℕ) (s : Loose) : Type 0 where
+  pub is_net : s.net < 257
+  pub lowest : s.net ≡ least 257 (loose_net w t D)
+  pub column : s.column ≡ suc (loose_column w t D s.net)
+  pub row : s.row ≡ suc (loose_track w t D s.net)
 
--- the refusal of what is found
-abbrev pub refused_loose : (s : Loose) → Checked
-refused_loose s = Refused (record { number = 17; place = s.net; column = s.column; row = s.row })
+-- what is kept in the end: that net, if any has a loose end
+abbrev pub LowestLoose : (w t : ℕ) (D : List ℕ) → Option Loose → Type 0
+LowestLoose w t D None = some 257 (loose_net w t D) ≡ false
+LowestLoose w t D (Some s) = LowestEnd w t D s
+
+-- the fault of what is found
+abbrev pub fault_of_end : (s : Loose) → Fault
+fault_of_end s = record { refusal = LooseEnd; place = s.net; column = s.column; row = s.row }

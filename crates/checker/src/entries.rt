@@ -1,45 +1,31 @@
 // Tests of single entries: refusals 13 to 15, with 19 and 20, which stand with 14.
-ghost use Rattle.std.specs.Prelude.{◌≡◌, true, false, ℕ, ◌+◌, ◌*◌, ◌-◌, ◌≤◌, ◌<◌, length, get_or};
+ghost use Rattle.std.specs.Prelude.{◌≡◌, true, false, ℕ, ◌+◌, ◌*◌, ◌≤◌, ◌<◌, length, get_or, position, not, eqb};
 ghost use Rattle.grid.specs.Channel.{over};
-ghost use Rattle.checker.specs.Check.{least, strange, mispinned, terminal_fault, pin_fault, leaves_last};
-ghost use Rattle.checker.specs.Working.{PinTable, unknown, AllKnown, KnownMarks};
+ghost use Rattle.grid.specs.Refusals.{number};
+ghost use Rattle.checker.specs.Check.{strange, mispinned, terminal_fault, pin_fault, leaves_last};
+ghost use Rattle.checker.specs.Working.{PinTable, unknown, first_below, AllKnown, KnownMarks};
+
+use grid::Refusal;
 
 // An entry, 0 past the end.
 pub(crate) fn entry(layout: &[u16], i: usize) -> u16
     ensures { result ≡ get_or layout.now i 0 }
 {
-    if i < layout.len() { layout[i] } else { 0 }
+    layout.get(i).copied().unwrap_or(0)
 }
 
 // Whether an entry is neither 0 nor a net by the table of pin counts.
 fn stranger(e: u16, pins: &[u16; 257]) -> bool
     ensures { result ≡ unknown pins.now e }
 {
-    if e == 0 {
-        return false;
-    }
-    if 256 < e {
-        return true;
-    }
-    let k = e as usize;
-    if pins[k] == 0 {
-        return true;
-    }
-    false
+    e != 0 && (256 < e || pins[usize::from(e)] == 0)
 }
 
-// The lowest entry that is neither 0 nor a net by the table, else the length.
-fn find_unknown(layout: &[u16], pins: &[u16; 257]) -> usize
-    ensures { result ≡ least (length layout.now) (λ p. unknown pins.now (get_or layout.now p 0)) }
+// The lowest entry that is neither 0 nor a net by the table.
+fn find_unknown(layout: &[u16], pins: &[u16; 257]) -> Option<usize>
+    ensures { result ≡ position (unknown pins.now) layout.now }
 {
-    let mut i = 0;
-    while i < layout.len() {
-        if stranger(layout[i], pins) {
-            return i;
-        }
-        i += 1;
-    }
-    layout.len()
+    layout.iter().position(|e| stranger(*e, pins))
 }
 
 // Marks of the numbers up to 256: only 0 and nets by the table have one.
@@ -48,10 +34,8 @@ fn known_numbers(pins: &[u16; 257]) -> [bool; 257]
     ensures { KnownMarks pins.now result 257 }
 {
     let mut known = [true; 257];
-    let mut v = 1;
-    while v < 257 {
+    for v in 1..257 {
         known[v] = pins[v] != 0;
-        v += 1;
     }
     known
 }
@@ -62,10 +46,9 @@ fn all_marked(layout: &[u16], known: &[bool; 257]) -> bool
     ensures { result ≡ true → (p : ℕ) → p < length layout.now → get_or known.now (get_or layout.now p 0) false ≡ true }
 {
     let mut all = true;
-    let mut i = 0;
-    while i < layout.len() {
-        all = all & known[layout[i] as usize];
-        i += 1;
+    // By `&` and with no way out: `all` would stop at each entry to branch, and this loop takes four at once.
+    for e in layout {
+        all = all & known[usize::from(*e)];
     }
     all
 }
@@ -82,61 +65,69 @@ fn all_known(layout: &[u16], pins: &[u16; 257]) -> bool
     all_marked(layout, &known)
 }
 
-// The lowest entry that is neither 0 nor a net, else the length.
-pub(crate) fn find_strange(top: &[u16], bottom: &[u16], layout: &[u16], pins: &[u16; 257]) -> usize
+// The lowest entry that is neither 0 nor a net.
+pub(crate) fn find_strange(
+    top: &[u16],
+    bottom: &[u16],
+    layout: &[u16],
+    pins: &[u16; 257],
+) -> Option<usize>
     requires { PinTable top.now bottom.now pins.now }
-    ensures { result ≡ least (length layout.now) (strange top.now bottom.now layout.now) }
+    ensures { result ≡ first_below (length layout.now) (strange top.now bottom.now layout.now) }
 {
     if all_known(layout, pins) {
-        return layout.len();
+        return None;
     }
     find_unknown(layout, pins)
 }
 
-// The lowest pin entry that is not its pin, else the length.
-pub(crate) fn find_pin(top: &[u16], bottom: &[u16], w: usize, t: usize, layout: &[u16]) -> usize
+// The lowest pin entry that is not its pin.
+pub(crate) fn find_pin(
+    top: &[u16],
+    bottom: &[u16],
+    w: usize,
+    t: usize,
+    layout: &[u16],
+) -> Option<usize>
     requires layout_len { length layout.now ≡ w * (2 * t + 1) }
     requires w_bound { w ≤ 511 }
     requires t_bound { t ≤ 511 }
-    ensures { result ≡ least (length layout.now) (mispinned top.now bottom.now t layout.now) }
+    ensures { result ≡ first_below (length layout.now) (mispinned top.now bottom.now t layout.now) }
 {
     let s = 2 * t + 1;
-    let mut b = 0;
-    let mut x = 0;
-    while x < w {
+    for x in 0..w {
+        let b = x * s;
         if entry(layout, b) != entry(bottom, x) {
-            return b;
+            return Some(b);
         }
         let e = b + t;
         if entry(layout, e) != entry(top, x) {
-            return e;
+            return Some(e);
         }
-        b += s;
-        x += 1;
     }
-    layout.len()
+    None
 }
 
-// The number of a wrong edge at the terminal of column x, counted from 0, in a row of pins.
-fn terminal_fault(row: &[u16], x: usize, edge: u16) -> u16
-    ensures { result ≡ terminal_fault row.now x edge }
+// What is wrong with an edge at the terminal of column x, counted from 0, in a row of pins.
+fn terminal_fault(row: &[u16], x: usize, edge: u16) -> Refusal
+    ensures { number result ≡ terminal_fault row.now x edge }
 {
     if row.len() <= x {
-        return 20;
+        return Refusal::UnpinnedWire;
     }
     if row[x] == 0 {
-        20
+        Refusal::UnpinnedWire
     } else if edge == 0 {
-        14
+        Refusal::UnwiredPin
     } else {
-        19
+        Refusal::MiswiredPin
     }
 }
 
-// The number of a wrong pin entry at position p. Without tracks it belongs to both terminals of its column, and the bottom pin is compared first.
-pub(crate) fn pin_fault(top: &[u16], bottom: &[u16], t: usize, layout: &[u16], p: usize) -> u16
+// What is wrong with the pin entry at position p. Without tracks it belongs to both terminals of its column, and the bottom pin is compared first.
+pub(crate) fn pin_fault(top: &[u16], bottom: &[u16], t: usize, layout: &[u16], p: usize) -> Refusal
     requires { t ≤ 511 }
-    ensures { result ≡ pin_fault top.now bottom.now t layout.now p }
+    ensures { number result ≡ pin_fault top.now bottom.now t layout.now p }
 {
     let s = 2 * t + 1;
     let x = p / s;
@@ -149,24 +140,19 @@ pub(crate) fn pin_fault(top: &[u16], bottom: &[u16], t: usize, layout: &[u16], p
     terminal_fault(top, x, edge)
 }
 
-// n - t, or 0.
-fn less(n: usize, t: usize) -> usize
-    ensures { result ≡ n - t }
+// The first entry that is not 0.
+fn find_edge(entries: &[u16]) -> Option<usize>
+    ensures { result ≡ position (λ e. not (eqb e 0)) entries.now }
 {
-    if n < t { 0 } else { n - t }
+    entries.iter().position(|e| *e != 0)
 }
 
-// The lowest horizontal edge of the last column, else the length. They are the last t entries.
-pub(crate) fn find_last(w: usize, t: usize, layout: &[u16]) -> usize
+// The lowest horizontal edge of the last column. They are the last t entries.
+pub(crate) fn find_last(w: usize, t: usize, layout: &[u16]) -> Option<usize>
     requires { length layout.now ≡ w * (2 * t + 1) }
-    ensures { result ≡ least (length layout.now) (leaves_last w t layout.now) }
+    ensures { result ≡ first_below (length layout.now) (leaves_last w t layout.now) }
 {
-    let mut i = less(layout.len(), t);
-    while i < layout.len() {
-        if layout[i] != 0 {
-            return i;
-        }
-        i += 1;
-    }
-    layout.len()
+    let start = layout.len().saturating_sub(t);
+    let edge = find_edge(&layout[start..])?;
+    Some(start + edge)
 }

@@ -1,9 +1,9 @@
 // One grid point: the labels of the edges that meet there, the pieces that begin and the joins of two.
-ghost use Rattle.std.specs.Prelude.{◌≡◌, ◌+◌, ◌≤◌, ◌<◌, length};
-ghost use Rattle.checker.specs.Working.{chosen, Entry, ColumnAt, seen₁, Labs, Labels, Labels₁, Labels₂, Labels₃, Merged, PerNet};
-ghost use Rattle.checker.specs.Working.{JoinCounted, PieceCounted, JoinsLeft, BeginsUp, BeginsRight, State};
+ghost use Rattle.std.specs.Prelude.{◌≡◌, ◌+◌, ◌≤◌, length};
+ghost use Rattle.checker.specs.Working.{chosen, Merged, PerNet, JoinCounted, PieceCounted};
+ghost use Rattle.checker.specs.Points.{StateAt, LabelsAt, LabelsLeft, LabsLeft, LabelsUp, LabelsRight, JoinsOf, BeginsUpOf, BeginsRightOf};
 
-use crate::entries::entry;
+use crate::points::Point;
 
 // The label `l` of an edge of net `n` if that is the net, else `o`.
 fn choose(net: u16, n: u16, l: u32, o: u32) -> u32
@@ -27,188 +27,103 @@ fn merge(lab: &mut [u32; 512], t: usize, old: u32, new: u32)
     if old == new {
         return;
     }
-    let mut k = 0;
-    while k < t {
-        if lab[k] == old {
-            lab[k] = new;
+    for label in lab[..t].iter_mut() {
+        if *label == old {
+            *label = new;
         }
-        k += 1;
     }
 }
 
-// One more piece begun, of the net, if the labels are the same: the edge keeps its own.
-pub(crate) fn begin(begun: &mut [u32; 257], net: u16, a: u32, b: u32)
-    requires net_bound { net ≤ 256 }
-    requires per_net { PerNet 1000000 begun.old }
-    ensures { PieceCounted a b net begun.old begun.new }
-{
-    if a == b {
-        let k = net as usize;
-        begun[k] = begun[k] + 1;
+// How many pieces of each net begin, and how many joins of two it has.
+#[derive(Drop)]
+pub(crate) struct Counts {
+    pub(crate) begun: [u32; 257],
+    pub(crate) joined: [u32; 257],
+}
+
+impl Counts {
+    // One more piece begun, of the net, if the labels are the same: the edge keeps its own.
+    pub(crate) fn begin(&mut self, net: u16, a: u32, b: u32)
+        requires net_bound { net ≤ 256 }
+        requires per_net { PerNet 1000000 self.old.begun }
+        ensures counted { PieceCounted a b net self.old.begun self.new.begun }
+        ensures joined { self.new.joined ≡ self.old.joined }
+    {
+        if a == b {
+            self.begun[usize::from(net)] += 1;
+        }
+    }
+
+    // One more join, of the net, if the labels differ.
+    fn join(&mut self, net: u16, a: u32, b: u32)
+        requires net_bound { net ≤ 256 }
+        requires per_net { PerNet 1000000 self.old.joined }
+        ensures counted { JoinCounted a b net self.old.joined self.new.joined }
+        ensures begun { self.new.begun ≡ self.old.begun }
+    {
+        if a != b {
+            self.joined[usize::from(net)] += 1;
+        }
     }
 }
 
-// One more join, of the net, if the labels differ.
-fn join(joined: &mut [u32; 257], net: u16, a: u32, b: u32)
-    requires net_bound { net ≤ 256 }
-    requires per_net { PerNet 1000000 joined.old }
-    ensures { JoinCounted a b net joined.old joined.new }
-{
-    if a == b {
-        return;
+impl Point<'_> {
+    // The left edge joins the edge below it.
+    fn label_left(self, vl: u32, lab: &mut [u32; 512], counts: &mut Counts) -> u32
+        requires labels { LabelsAt self vl lab.old }
+        requires per_net { PerNet 1000000 counts.old.joined }
+        ensures labels_left { LabelsLeft self.entry vl result }
+        ensures labs { LabsLeft self.entry lab.new }
+        ensures joins_left { JoinsOf self.entry counts.old.joined counts.new.joined }
+        ensures begun { counts.new.begun ≡ counts.old.begun }
+    {
+        let ll = lab[self.j];
+        let nl = choose(self.left, self.below, vl, ll);
+        merge(lab, self.column.t, ll, nl);
+        counts.join(self.left, ll, nl);
+        nl
     }
-    let k = net as usize;
-    joined[k] = joined[k] + 1;
-}
 
-// The left edge, of net ln, joins the edge below it, of net vd.
-fn label_left(
-    layout: &[u16],
-    t: usize,
-    b: usize,
-    q: usize,
-    j: usize,
-    vl: u32,
-    vd: u16,
-    ln: u16,
-    lab: &mut [u32; 512],
-    joined: &mut [u32; 257],
-) -> u32
-    requires column_at { ColumnAt layout.now t b q }
-    requires j_lt_t { j < t }
-    requires entry_below { Entry layout.now (b + j) vd }
-    requires entry_left { Entry layout.now (q + j) ln }
-    requires labels { Labels layout.now t b q j vl lab.old }
-    requires per_net { PerNet 1000000 joined.old }
-    ensures labels_left { Labels₁ layout.now t b q j vl result }
-    ensures labs { Labs layout.now t b q j (seen₁ layout.now t b q j) lab.new }
-    ensures joins_left { JoinsLeft layout.now t b q j joined.old joined.new }
-{
-    let ll = lab[j];
-    let nl = choose(ln, vd, vl, ll);
-    merge(lab, t, ll, nl);
-    join(joined, ln, ll, nl);
-    nl
-}
+    // The upper edge takes the label of the left edge or of the edge below.
+    fn label_up(self, vl: u32, nl: u32, counts: &mut Counts) -> u32
+        requires labels_left { LabelsLeft self vl nl }
+        requires per_net { PerNet 1000000 counts.old.begun }
+        ensures labels_up { LabelsUp self.entry vl nl result }
+        ensures begins_up { BeginsUpOf self.entry counts.old.begun counts.new.begun }
+        ensures joined { counts.new.joined ≡ counts.old.joined }
+    {
+        let u = (self.column.b + self.j + 1) as u32;
+        let o = choose(self.above, self.below, vl, u);
+        let ul = choose(self.above, self.left, nl, o);
+        counts.begin(self.above, u, ul);
+        ul
+    }
 
-// The upper edge, of net vu, takes the label of the left edge or of the edge below.
-fn label_up(
-    layout: &[u16],
-    t: usize,
-    b: usize,
-    q: usize,
-    j: usize,
-    vl: u32,
-    nl: u32,
-    vd: u16,
-    ln: u16,
-    vu: u16,
-    begun: &mut [u32; 257],
-) -> u32
-    requires column_at { ColumnAt layout.now t b q }
-    requires j_lt_t { j < t }
-    requires entry_below { Entry layout.now (b + j) vd }
-    requires entry_left { Entry layout.now (q + j) ln }
-    requires entry_above { Entry layout.now (b + j + 1) vu }
-    requires labels_left { Labels₁ layout.now t b q j vl nl }
-    requires per_net { PerNet 1000000 begun.old }
-    ensures labels_up { Labels₂ layout.now t b q j vl nl result }
-    ensures begins_up { BeginsUp layout.now t b q j begun.old begun.new }
-{
-    let u = (b + j + 1) as u32;
-    let o = choose(vu, vd, vl, u);
-    let ul = choose(vu, ln, nl, o);
-    begin(begun, vu, u, ul);
-    ul
-}
+    // The right edge takes the label of one of the three.
+    fn label_right(self, vl: u32, nl: u32, ul: u32, counts: &mut Counts) -> u32
+        requires labels_up { LabelsUp self vl nl ul }
+        requires per_net { PerNet 1000000 counts.old.begun }
+        ensures labels_right { LabelsRight self.entry ul result }
+        ensures begins_right { BeginsRightOf self.entry counts.old.begun counts.new.begun }
+        ensures joined { counts.new.joined ≡ counts.old.joined }
+    {
+        let r = (self.column.b + self.column.t + 1 + self.j) as u32;
+        let o = choose(self.right, self.below, vl, r);
+        let p = choose(self.right, self.left, nl, o);
+        let rl = choose(self.right, self.above, ul, p);
+        counts.begin(self.right, r, rl);
+        rl
+    }
 
-// The right edge, of net rn, takes the label of one of the three.
-fn label_right(
-    layout: &[u16],
-    t: usize,
-    b: usize,
-    q: usize,
-    j: usize,
-    vl: u32,
-    nl: u32,
-    ul: u32,
-    vd: u16,
-    ln: u16,
-    vu: u16,
-    rn: u16,
-    begun: &mut [u32; 257],
-) -> u32
-    requires column_at { ColumnAt layout.now t b q }
-    requires j_lt_t { j < t }
-    requires entry_below { Entry layout.now (b + j) vd }
-    requires entry_left { Entry layout.now (q + j) ln }
-    requires entry_above { Entry layout.now (b + j + 1) vu }
-    requires entry_right { Entry layout.now (b + t + 1 + j) rn }
-    requires labels_up { Labels₂ layout.now t b q j vl nl ul }
-    requires per_net { PerNet 1000000 begun.old }
-    ensures labels_right { Labels₃ layout.now t b q j ul result }
-    ensures begins_right { BeginsRight layout.now t b q j begun.old begun.new }
-{
-    let r = (b + t + 1 + j) as u32;
-    let o = choose(rn, vd, vl, r);
-    let p = choose(rn, ln, nl, o);
-    let rl = choose(rn, vu, ul, p);
-    begin(begun, rn, r, rl);
-    rl
-}
-
-// The edges of a grid point: the left, the upper and the right one, one after the other.
-fn meet(
-    layout: &[u16],
-    t: usize,
-    b: usize,
-    q: usize,
-    j: usize,
-    vl: u32,
-    vd: u16,
-    ln: u16,
-    vu: u16,
-    rn: u16,
-    lab: &mut [u32; 512],
-    begun: &mut [u32; 257],
-    joined: &mut [u32; 257],
-) -> u32
-    requires column_at { ColumnAt layout.now t b q }
-    requires j_lt_t { j < t }
-    requires entry_below { Entry layout.now (b + j) vd }
-    requires entry_left { Entry layout.now (q + j) ln }
-    requires entry_above { Entry layout.now (b + j + 1) vu }
-    requires entry_right { Entry layout.now (b + t + 1 + j) rn }
-    requires state { State layout.now t b q j vl lab.old begun.old joined.old }
-    ensures { State layout.now t b q (j + 1) result lab.new begun.new joined.new }
-{
-    let nl = label_left(layout, t, b, q, j, vl, vd, ln, lab, joined);
-    let ul = label_up(layout, t, b, q, j, vl, nl, vd, ln, vu, begun);
-    let rl = label_right(layout, t, b, q, j, vl, nl, ul, vd, ln, vu, rn, begun);
-    lab[j] = rl;
-    ul
-}
-
-// One grid point.
-pub(crate) fn point(
-    layout: &[u16],
-    t: usize,
-    b: usize,
-    q: usize,
-    j: usize,
-    vl: u32,
-    lab: &mut [u32; 512],
-    begun: &mut [u32; 257],
-    joined: &mut [u32; 257],
-) -> u32
-    requires column_at { ColumnAt layout.now t b q }
-    requires j_lt_t { j < t }
-    requires state { State layout.now t b q j vl lab.old begun.old joined.old }
-    ensures { State layout.now t b q (j + 1) result lab.new begun.new joined.new }
-{
-    let vd = layout[b + j];
-    let ln = entry(layout, q + j);
-    let vu = layout[b + j + 1];
-    let rn = layout[b + t + 1 + j];
-    meet(layout, t, b, q, j, vl, vd, ln, vu, rn, lab, begun, joined)
+    // Its edges: the left, the upper and the right one, one after the other. The label of the edge below is given, that of the upper one returned.
+    pub(crate) fn meet(self, vl: u32, lab: &mut [u32; 512], counts: &mut Counts) -> u32
+        requires { StateAt self.column self.j vl lab.old counts.old }
+        ensures { StateAt self.entry.column (self.entry.j + 1) result lab.new counts.new }
+    {
+        let nl = self.label_left(vl, lab, counts);
+        let ul = self.label_up(vl, nl, counts);
+        let rl = self.label_right(vl, nl, ul, counts);
+        lab[self.j] = rl;
+        ul
+    }
 }

@@ -6,6 +6,7 @@ use native.Mathlib.Omega.{arith}
 use native.Mathlib.Nat.{mul-le-mul_right}
 use lib.ListN.{length, drop, length-take}
 use lib.Seq.{take-append-le}
+use Rattle.grid.specs.Refusals.{number_of}
 use Rattle.grid.specs.declared.Family.TheVariants.{TwoPin}
 use Rattle.grid.specs.Channel.{family, tracks, rows_refused}
 use Rattle.grid.proofs.Rows.{rows_fit, two_density}
@@ -42,7 +43,7 @@ module _ (top bottom : List ℕ) (p : TwoPinChannel top bottom) where
         omega (arith, layout-length top bottom channel_accepted, mul-le-mul_right {m = k} {n = routing.width top bottom} each (omega (arith, width-least top bottom channel_accepted)))
 
     -- so a slice has them, after a call that draws
-    written_columns : (most : ℕ) (old : List ℕ) → routing.number_of (routing.answer top bottom most (length old)) ≡ 0
+    written_columns : (most : ℕ) (old : List ℕ) → number_of (routing.answer top bottom most (length old)) ≡ 0
         → first_columns k (tracks top bottom) (routing.written top bottom most old) ≡ first_columns k (tracks top bottom) (layout top bottom)
     written_columns most old e =
         ap (first_columns k (tracks top bottom)) (written_drawn top bottom most old (sym (answer-number top bottom most (length old)) ∙ e))

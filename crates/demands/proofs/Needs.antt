@@ -4,6 +4,7 @@ use mathlib.Core.Path.{◌≡◌, sym, ap, ◌∙◌}
 use mathlib.Core.List.{List}
 use native.Mathlib.Omega.{arith}
 use lib.ListN.{length}
+use Rattle.grid.specs.Refusals.{answer_of}
 use Rattle.grid.specs.Channel.{tracks, rows_refused}
 use Rattle.grid.specs.Answers.{refused_within}
 use Rattle.grid.proofs.Answers.{accepted, accepted_new}
@@ -55,7 +56,7 @@ module _ (top bottom : List ℕ) (most : ℕ) (old : List ℕ) (l : LetsThrough 
   as_before_lem =
       record {
         accepted = answer-number top bottom most (length old) ∙ accepted_now;
-        answers = ap (λ (k : ℕ). routing.routed_by k (routing.figures top bottom)) (accepted_now ∙ sym accepted_before);
+        answers = ap (λ (k : ℕ). answer_of k (routing.figures top bottom)) (accepted_now ∙ sym accepted_before);
         leaves = written_drawn top bottom most old accepted_now ∙ sym (accepted_new (refused_before top bottom most (length old)) _ old accepted_before);
       }
 

@@ -7,12 +7,12 @@ use native.Mathlib.Omega.{arith}
 use lib.Dec.{ltb}
 use lib.ListN.{length}
 use Rattle.grid.specs.Channel.{pick, rows_refused}
-use Rattle.grid.specs.Refusals.{first_refusal}
+use Rattle.grid.specs.Refusals.{first_refusal, number_of}
 use Rattle.grid.specs.Answers as counting
 use Rattle.grid.proofs.Answers.{check_number, check_figures, density-number, density_figure, accepted_old, no_later}
 use Rattle.router.specs.Answers as routing
 use Rattle.router.proofs.Answered.{need_number, need_entries, answer-number, answer_figures}
-use Rattle.checker.specs.declared.Fault.{Fault}
+use Rattle.checker.specs.declared.Told.{Told}
 use Rattle.checker.specs.Check as checking
 use Rattle.checker.specs.Check.{pin_fault}
 use Rattle.checker.specs.Faults.{PinWrong, Unwired, Miswired, Unpinned, FaultAt}
@@ -47,7 +47,7 @@ module _ (top bottom : List ℕ) where
   slice_lines most asked lent = rows_lines top bottom (min most 256) (within most) _ _ (λ e. slice_first 8 asked lent)
 
   pub route_first : (most lent : ℕ)
-      → First (of_rows top bottom (min most 256) (of_layout top bottom lent)) (routing.number_of (routing.answer top bottom most lent))
+      → First (of_rows top bottom (min most 256) (of_layout top bottom lent)) (number_of (routing.answer top bottom most lent))
   unfolding routing.refused routing.slice_length
   route_first most lent =
       subst (λ (k : ℕ). First (of_rows top bottom (min most 256) (of_layout top bottom lent)) k) (sym (answer-number top bottom most lent)) (slice_lines most _ lent)
@@ -151,8 +151,8 @@ module _ (top bottom : List ℕ) where
       let e = report.own_fault top bottom w t D lent in
       let z = report.short_fault top bottom (Given w t) D lent in
       record {
-        own = λ h. (ap (λ (f : Fault). f.number) (e h) ∙ sym n, ap (λ (f : Fault). f.place) (e h) ∙ sym p, ap (λ (f : Fault). f.column) (e h) ∙ sym c, ap (λ (f : Fault). f.row) (e h) ∙ sym r);
-        short = λ h. (ap (λ (f : Fault). f.place) (z h), ap (λ (f : Fault). f.column) (z h), ap (λ (f : Fault). f.row) (z h));
+        own = λ h. (ap (λ (f : Told). f.number) (e h) ∙ sym n, ap (λ (f : Told). f.place) (e h) ∙ sym p, ap (λ (f : Told). f.column) (e h) ∙ sym c, ap (λ (f : Told). f.row) (e h) ∙ sym r);
+        short = λ h. (ap (λ (f : Told). f.place) (z h), ap (λ (f : Told). f.column) (z h), ap (λ (f : Told). f.row) (z h));
       }
 
 -- A RECORD
@@ -161,7 +161,7 @@ module _ (s : List ℕ) where
   unfolding First
   read_first = subst (λ (k : ℕ). First (of_record s end) k) (no_later (reading.record_refused s)) (record_lines s 0 end refl)
 
-  pub list_first : First (of_record s (of_rows (top_row s) (bottom_row s) 64 end)) (listing.number_of (listing.listed s))
+  pub list_first : First (of_record s (of_rows (top_row s) (bottom_row s) 64 end)) (number_of (listing.listed s))
   unfolding listing.refused
   list_first =
       subst (λ (k : ℕ). First (of_record s (of_rows (top_row s) (bottom_row s) 64 end)) k) (sym (listed-number s))

@@ -7,6 +7,7 @@ use native.Mathlib.Omega.{arith}
 use native.Mathlib.Decide.{dec_lt, ℕ_discrete}
 use lib.ListN.{length, drop, length-drop}
 use lib.Seq.{length-take-le}
+use Rattle.grid.specs.Refusals.{number_of}
 use Rattle.grid.specs.declared.Part.{Part}
 use Rattle.grid.specs.Grid.{column_of}
 use Rattle.grid.specs.View.{column_part, column_view, part_of, no_part}
@@ -32,11 +33,11 @@ use Rattle.canonical.proofs.Answers as spell
 use Rattle.demands.specs.Slices.{LeavesSlices, LeavesNetRecords, LeavesLengths, LeavesRecord, NoColumn, Shows}
 
 -- what the writing of the one spelling leaves
-write_refused_lem : (top bottom old : List ℕ) → spelling.number_of (spelling.answer top bottom (length old)) ≢ 0 → spelling.bytes_after top bottom old ≡ old
+write_refused_lem : (top bottom old : List ℕ) → number_of (spelling.answer top bottom (length old)) ≢ 0 → spelling.bytes_after top bottom old ≡ old
 unfolding spelling.bytes_after
 write_refused_lem top bottom old n = accepted_old (spelling.refused top bottom (length old)) _ old (λ z. n (spell.answer-number top bottom (length old) ∙ z))
 
-record_written : (top bottom old : List ℕ) → spelling.number_of (spelling.answer top bottom (length old)) ≡ 0
+record_written : (top bottom old : List ℕ) → number_of (spelling.answer top bottom (length old)) ≡ 0
     → spelling.bytes_after top bottom old ≡ spelling.canonical top bottom ++ drop (6 + 4 * length top) old
 record_written top bottom old e =
     let (r, h) = spell.none_refused top bottom (length old) (sym (spell.answer-number top bottom (length old)) ∙ e) in
@@ -49,13 +50,13 @@ leaves top bottom =
       route_refused = λ most old n. written_refused top bottom most old (λ z. n (answer-number top bottom most (length old) ∙ z));
       report_refused = λ drawing D old n. report.table_of_refusal top bottom drawing D old (λ z. n (report.number top bottom drawing D (length old) ∙ z));
       facts_refused = λ most old n.
-          let k = counting.number_of (counting.row_check top bottom most) in
+          let k = number_of (counting.row_check top bottom most) in
           (accepted_old k (table (first_column top bottom)) old n, accepted_old k (table (last_column top bottom)) old n, accepted_old k (table (pins top bottom)) old n);
       write_refused = write_refused_lem top bottom;
       route_drawn = λ most old e. written_drawn top bottom most old (sym (answer-number top bottom most (length old)) ∙ e);
       report_filled = λ drawing D old e. report.table_filled top bottom drawing D old (sym (report.number top bottom drawing D (length old)) ∙ e);
       facts_filled = λ most old e.
-          let k = counting.number_of (counting.row_check top bottom most) in
+          let k = number_of (counting.row_check top bottom most) in
           (accepted_new k (table (first_column top bottom)) old e, accepted_new k (table (last_column top bottom)) old e, accepted_new k (table (pins top bottom)) old e);
       written = record_written top bottom;
     }
@@ -87,8 +88,8 @@ module _ (top bottom : List ℕ) (old : List NetRecord) (d : NetRecord) where
 -- for all bytes
 pub leaves_record : (s : List ℕ) → LeavesRecord s
 leaves_record s =
-    let k = reading.number (reading.record_read s) in
-    let j = listing.number_of (listing.listed s) in
+    let k = number_of (reading.record_read s) in
+    let j = number_of (listing.listed s) in
     record {
       rows_refused = λ old n. (accepted_old k (laid (top_row s) old) old n, accepted_old k (laid (bottom_row s) old) old n);
       rows_read = λ old e. (accepted_new k (laid (top_row s) old) old e, accepted_new k (laid (bottom_row s) old) old e);

@@ -11,7 +11,7 @@ use Rattle.grid.proofs.Answers.{accepted}
 use Rattle.router.specs.Answers.{width, layout}
 use Rattle.router.proofs.Applied.{layout-length}
 use Rattle.router.proofs.Answered.{answer-number, let_through, written_drawn, written_solution}
-use Rattle.checker.specs.declared.Fault.{Fault}
+use Rattle.checker.specs.declared.Told.{Told}
 use Rattle.checker.specs.Check as checking
 use Rattle.checker.proofs.Answers.{check_parts}
 use Rattle.checker.proofs.Passes.{passes_solutions, passed_number}
@@ -32,7 +32,7 @@ module _ (top bottom : List ℕ) (w t : ℕ) (D : List ℕ) where
 
   -- into a table that is long enough the report on a drawing answers the checker's number
   same_number : (lent : ℕ) → 256 ≤ lent → reporting.number_of (reporting.reported top bottom (Given w t) D lent) ≡ checking.number_of (checking.checked top bottom w t D)
-  same_number lent h = ap (λ (f : Fault). f.number) (report.own_fault top bottom w t D lent h) ∙ sym (check_parts top bottom w t D).0
+  same_number lent h = ap (λ (f : Told). f.number) (report.own_fault top bottom w t D lent h) ∙ sym (check_parts top bottom w t D).0
 
 pub draws_solutions : (top bottom : List ℕ) → DrawsSolutions top bottom
 draws_solutions top bottom =

@@ -4,11 +4,12 @@ use mathlib.Core.Path.{◌≡◌, sym, ap, ◌∙◌}
 use mathlib.Core.List.{List}
 use native.Mathlib.Omega.{arith}
 use lib.ListN.{length, length-map}
+use Rattle.grid.specs.Refusals.{number_of}
 use Rattle.grid.specs.Channel.{rows_refused}
 use Rattle.grid.proofs.Rows.{rows_fit}
 use Rattle.record.specs.Record.{record_read, top_row, bottom_row}
 use Rattle.canonical.specs.Renaming.{new_number, new_top, new_bottom}
-use Rattle.canonical.specs.Canonical.{number_of, answer, canonical, record_size}
+use Rattle.canonical.specs.Canonical.{answer, canonical, record_size}
 use Rattle.canonical.proofs.FirstPins.{in_order_lem}
 use Rattle.canonical.proofs.OnlyOrder.{only_order}
 use Rattle.canonical.proofs.NewNumbers.{number_renames}

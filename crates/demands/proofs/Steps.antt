@@ -8,7 +8,6 @@ use native.Mathlib.Omega.{arith}
 use native.Mathlib.Decide.{ℕ_discrete}
 use lib.ListN.{length, drop}
 use Rattle.grid.specs.Channel.{pick, pins, pins_within, density, tracks, rows_refused}
-use Rattle.grid.proofs.Answers.{accepted_old}
 use Rattle.grid.proofs.Rows.{rows_fit, two_fit, two_density}
 use Rattle.sweep.specs.Drawing as Drawing
 use Rattle.sweep.specs.Drawing.{drawn}
@@ -17,7 +16,11 @@ use Rattle.router.specs.Answers.{width, layout, formula_length, written}
 use Rattle.router.proofs.Applied.{layout-length, within_formula}
 use Rattle.router.proofs.Answered.{passes, written_drawn}
 use Rattle.placing.specs.Placing.{placed_top, placed_bottom}
-use Rattle.stepwise.specs.Sweep.{State, Starts, start_refused, started, step_refused, stepped, late_refused}
+use Rattle.stepwise.specs.Sweep.{State, Starts, start_refused, late_refused}
+use Rattle.stepwise.specs.declared.Started.{Started}
+use Rattle.stepwise.specs.declared.Stepped.{Stepped}
+use Rattle.stepwise.proofs.Begin.{started_zeros}
+use Rattle.stepwise.proofs.Onwards.{stepped_zeros}
 use Rattle.stepwise.specs.Calls.{Call, Position, Leads}
 use Rattle.stepwise.proofs.Positions.{Going, GoesOn, within_two, going_start, steps_add, step_past, place-refused, first-columns, columns_stay}
 use Rattle.stepwise.proofs.Positions.{goes_all, after-append, InHand, hand_start, hand_after}
@@ -79,10 +82,9 @@ module _ (top bottom : List ℕ) where
   }
 
   zeros : DrivenZeros top bottom
-  unfolding started stepped
   zeros = record {
-    start = λ n. (accepted_old (start_refused top bottom) _ 0 n, accepted_old (start_refused top bottom) _ 0 n);
-    step = λ t c k lent n. (accepted_old (step_refused top bottom t c lent) _ 0 n, accepted_old (step_refused top bottom t c lent) _ false n);
+    start = λ n. let e = started_zeros top bottom n in (ap (λ (f : Started). f.tracks) e, ap (λ (f : Started). f.length) e);
+    step = λ t c k lent n. let e = stepped_zeros top bottom t c k lent n in (ap (λ (f : Stepped). f.drawn) e, ap (λ (f : Stepped). f.finished) e);
   }
 
 -- A CHANNEL WITH SOME OF ITS COLUMNS DRAWN

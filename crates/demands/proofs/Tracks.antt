@@ -5,6 +5,7 @@ use mathlib.Core.Logic.{◌↔◌}
 use mathlib.Core.List.{List}
 use native.Mathlib.Omega.{arith}
 use lib.ListN.{length}
+use Rattle.grid.specs.Refusals.{number_of}
 use Rattle.grid.specs.declared.Family.TheVariants.{TwoPin, ThreePin, ManyPin}
 use Rattle.grid.specs.Channel.{tracks, rows_refused}
 use Rattle.grid.specs.Grid.{Wiring}
@@ -66,13 +67,13 @@ unfolding routing.figures
 routes top bottom most old =
     let lent = length old in
     let n = answer-number top bottom most lent in
-    let figures : routing.number_of (routing.answer top bottom most lent) ≡ 0 → routing.figures_of (routing.answer top bottom most lent) ≡ routing.figures top bottom =
+    let figures : number_of (routing.answer top bottom most lent) ≡ 0 → routing.figures_of (routing.answer top bottom most lent) ≡ routing.figures top bottom =
     λ e. answer_figures top bottom most lent ∙ accepted_new (routing.refused top bottom most lent) _ routing.no_figures (sym n ∙ e) in
     record {
       exactly =
           zero_just_if_let (of_rows top bottom (min most 256) (of_layout top bottom lent))
           (rows_numbered top bottom (min most 256) (of_layout top bottom lent) (slice_numbered _ lent))
-          (routing.number_of (routing.answer top bottom most lent)) (route_first top bottom most lent);
+          (number_of (routing.answer top bottom most lent)) (route_first top bottom most lent);
       reports = λ e. reported (figures e);
       draws = λ e. written_drawn top bottom most old (sym n ∙ e);
       keeps = λ k. written_refused top bottom most old (λ z. k (n ∙ z));
@@ -84,7 +85,7 @@ routes top bottom most old =
 
 -- THE LISTING
 -- a listing whose number is 0 has rows that are accepted
-rows_of : (s : List ℕ) → listing.number_of (listing.listed s) ≡ 0 → rows_refused (top_row s) (bottom_row s) 256 ≡ 0
+rows_of : (s : List ℕ) → number_of (listing.listed s) ≡ 0 → rows_refused (top_row s) (bottom_row s) 256 ≡ 0
 unfolding listing.refused
 rows_of s e = rows_more (top_row s) (bottom_row s) 64 256 (omega arith) (first_past (record_refused s) _ (sym (listed-number s) ∙ e)).1
 
@@ -95,7 +96,7 @@ lists s =
       exactly =
           zero_just_if_let (of_record s (of_rows (top_row s) (bottom_row s) 64 end))
           (record_numbered s (of_rows (top_row s) (bottom_row s) 64 end) (rows_numbered (top_row s) (bottom_row s) 64 end none_numbered))
-          (listing.number_of (listing.listed s)) (list_first s);
+          (number_of (listing.listed s)) (list_first s);
       text = refl;
       reports = λ e. drawn (top_row s) (bottom_row s) (rows_of s e);
     }

@@ -8,11 +8,11 @@ use native.Mathlib.Omega.{arith}
 use lib.Dec.{eqb, ltb}
 use lib.ListN.{length}
 use Rattle.grid.specs.Channel.{pick, over, count, pins, rows_refused}
-use Rattle.grid.specs.Refusals.{if_accepted}
+use Rattle.grid.specs.Refusals.{if_accepted, number_of}
 use Rattle.grid.proofs.Answers.{check_number, accepted_new, accepted_old}
 use Rattle.grid.proofs.Rows.{rows_fit}
 use Rattle.router.specs.Answers.{width}
-use Rattle.widest.specs.Widest.{widest_top, widest_bottom, number_of, refused, answer, top_after, bottom_after}
+use Rattle.widest.specs.Widest.{widest_top, widest_bottom, refused, answer, top_after, bottom_after}
 use Rattle.widest.proofs.Widest.{no_more_added, widest_columns, widest_odd, widest_accepted, widest_pairs, widest_tracks, widest_adds}
 use Rattle.widest.proofs.Answers.{answer-number, answer-columns, refused_short}
 use Rattle.demands.specs.Table.{First, end, of_lent_rows}

@@ -1,6 +1,7 @@
 -- Document 02, Job 9, "Same beginning, same drawing": "For channels of two-pin nets, show that two of equal density whose first k columns agree have the same
 -- first k columns in their drawings, for all k up to the shorter channel's columns." Of the columns added after column n nothing is said.
 use Rattle.std.specs.Prelude.{ℕ, ◌+◌, ◌*◌, ◌≤◌, min, ◌≡◌, List, length, take}
+use Rattle.grid.specs.Refusals.{number_of}
 use Rattle.grid.specs.Channel.{density, tracks}
 use Rattle.router.specs.Answers.{layout}
 use Rattle.router.specs.Answers as routing
@@ -39,8 +40,8 @@ pub record DrawnAlike (top bottom top' bottom' : List ℕ) (k : ℕ) : Type 0 wh
   -- none of which is missing
   pub all : length (first_columns k (tracks top bottom) (layout top bottom)) ≡ k * (2 * tracks top bottom + 1)
   -- so two routing calls that draw leave the same there, whatever their limits of columns and what their slices held
-  pub slices : (most most' : ℕ) (old old' : List ℕ) → routing.number_of (routing.answer top bottom most (length old)) ≡ 0
-      → routing.number_of (routing.answer top' bottom' most' (length old')) ≡ 0
+  pub slices : (most most' : ℕ) (old old' : List ℕ) → number_of (routing.answer top bottom most (length old)) ≡ 0
+      → number_of (routing.answer top' bottom' most' (length old')) ≡ 0
       → first_columns k (tracks top bottom) (routing.written top bottom most old)
       ≡ first_columns k (tracks top' bottom') (routing.written top' bottom' most' old')
 

@@ -1,9 +1,10 @@
 -- Document 02, Job 5, "Only the slice it needs": what the call that states the need gives, and which slices routing takes.
-use Rattle.std.specs.Prelude.{ℕ, ◌+◌, ◌*◌, ◌≤◌, ◌<◌, min, ◌≡◌, List, ◌++◌, ltb, length, drop}
+use Rattle.std.specs.Prelude.{ℕ, ◌+◌, ◌*◌, ◌≤◌, ◌<◌, min, ◌≡◌, List, ◌++◌, ltb, length, drop, Result}
 use Rattle.grid.specs.Channel.{pick, tracks}
-use Rattle.grid.specs.Refusals.{first_refusal, if_accepted}
+use Rattle.grid.specs.Refusals.{first_refusal, if_accepted, number_of, answer_of}
 use Rattle.grid.specs.Answers.{refused_within}
-use Rattle.router.specs.declared.Routed.{Routed}
+use Rattle.grid.specs.declared.refusals.Refusal.{Refusal}
+use Rattle.router.specs.declared.Figures.{Figures}
 use Rattle.router.specs.Answers.{formula_length, width, layout}
 use Rattle.router.specs.Answers as routing
 use Rattle.demands.specs.Table.{LetsThrough, end, of_rows, of_formula}
@@ -17,8 +18,8 @@ pub record StatesNeed (top bottom : List ℕ) : Type 0 where
   -- it is at most document 01's formula
   pub at_most : routing.entries_of (routing.need top bottom) ≤ formula_length (length top) (tracks top bottom)
   -- "8 is given only below that": with exactly the need, or more, routing draws, and with one entry less, or fewer, it refuses with 8
-  pub draws : (lent : ℕ) → routing.entries_of (routing.need top bottom) ≤ lent → routing.number_of (routing.answer top bottom 256 lent) ≡ 0
-  pub refuses : (lent : ℕ) → lent < routing.entries_of (routing.need top bottom) → routing.number_of (routing.answer top bottom 256 lent) ≡ 8
+  pub draws : (lent : ℕ) → routing.entries_of (routing.need top bottom) ≤ lent → number_of (routing.answer top bottom 256 lent) ≡ 0
+  pub refuses : (lent : ℕ) → lent < routing.entries_of (routing.need top bottom) → number_of (routing.answer top bottom 256 lent) ≡ 8
 
 -- AS BEFORE, when the formula was asked for
 module _ (top bottom : List ℕ) (most : ℕ) where
@@ -27,8 +28,8 @@ module _ (top bottom : List ℕ) (most : ℕ) where
   refused_before lent = first_refusal (refused_within top bottom most) (pick (ltb lent (formula_length (length top) (tracks top bottom))) 8 0)
 
   -- what it answered
-  abbrev pub answer_before : (lent : ℕ) → Routed
-  answer_before lent = routing.routed_by (refused_before lent) (routing.figures top bottom)
+  abbrev pub answer_before : (lent : ℕ) → Result Figures Refusal
+  answer_before lent = answer_of (refused_before lent) (routing.figures top bottom)
 
   -- and what it left in a slice that held `old`
   abbrev pub written_before : (old : List ℕ) → List ℕ
@@ -36,7 +37,7 @@ module _ (top bottom : List ℕ) (most : ℕ) where
 
 -- "A call that used to be accepted writes what it wrote before": it is accepted, and answers and leaves the same
 pub record AsBefore (top bottom : List ℕ) (most : ℕ) (old : List ℕ) : Type 0 where
-  pub accepted : routing.number_of (routing.answer top bottom most (length old)) ≡ 0
+  pub accepted : number_of (routing.answer top bottom most (length old)) ≡ 0
   pub answers : routing.answer top bottom most (length old) ≡ answer_before top bottom most (length old)
   pub leaves : routing.written top bottom most old ≡ written_before top bottom most old
 

@@ -1,6 +1,7 @@
 -- The first demand: every call takes all numbers and lengths, stops, and refuses with the first number of the table that applies. That each call stops and
 -- answers by these definitions, for all arguments, is its own promise.
 use Rattle.std.specs.Prelude.{ℕ, ◌≤◌, ◌<◌, min, ◌≡◌, ◌≢◌, ◌⊎◌, List}
+use Rattle.grid.specs.Refusals.{number_of}
 use Rattle.grid.specs.Answers as counting
 use Rattle.router.specs.Answers as routing
 use Rattle.checker.specs.Check as checking
@@ -17,10 +18,10 @@ use Rattle.demands.specs.Table.{First, end, of_record, of_rows, of_layout, of_ne
 -- THE FIRST NUMBER THAT APPLIES, call by call: of the calls on rows, `most` a limit of columns and `lent` the length of a slice
 pub record Refuses (top bottom : List ℕ) : Type 0 where
   -- the row check, and the net facts, which answer alike
-  pub rows : (most : ℕ) → First (of_rows top bottom (min most 256) end) (counting.number_of (counting.row_check top bottom most))
-  pub density : First (of_rows top bottom 256 end) (counting.count_number (counting.density_count top bottom))
-  pub need : First (of_rows top bottom 256 end) (routing.length_number_of (routing.need top bottom))
-  pub route : (most lent : ℕ) → First (of_rows top bottom (min most 256) (of_layout top bottom lent)) (routing.number_of (routing.answer top bottom most lent))
+  pub rows : (most : ℕ) → First (of_rows top bottom (min most 256) end) (number_of (counting.row_check top bottom most))
+  pub density : First (of_rows top bottom 256 end) (number_of (counting.density_count top bottom))
+  pub need : First (of_rows top bottom 256 end) (number_of (routing.need top bottom))
+  pub route : (most lent : ℕ) → First (of_rows top bottom (min most 256) (of_layout top bottom lent)) (number_of (routing.answer top bottom most lent))
   pub check :
       (w t : ℕ) (D : List ℕ) → First (of_rows top bottom 256 (of_drawing top bottom w t D)) (checking.number_of (checking.checked top bottom w t D))
   -- the net report, with or without a drawing: "unless 9 comes first, the checker's own refusal comes back"
@@ -28,25 +29,25 @@ pub record Refuses (top bottom : List ℕ) : Type 0 where
       (drawing : Drawing) (D : List ℕ) (lent : ℕ)
       → First (of_rows top bottom 256 (of_net_table lent (of_reported top bottom drawing D))) (reporting.number_of (reporting.reported top bottom drawing D lent))
   -- the writing of the one spelling
-  pub write : (lent : ℕ) → First (of_rows top bottom 256 (of_output top bottom lent)) (spelling.number_of (spelling.answer top bottom lent))
+  pub write : (lent : ℕ) → First (of_rows top bottom 256 (of_output top bottom lent)) (number_of (spelling.answer top bottom lent))
 
 -- of the calls on a record's bytes
 pub record RefusesRecord (s : List ℕ) : Type 0 where
-  pub read : First (of_record s end) (reading.number (reading.record_read s))
-  pub list : First (of_record s (of_rows (top_row s) (bottom_row s) 64 end)) (listing.number_of (listing.listed s))
+  pub read : First (of_record s end) (number_of (reading.record_read s))
+  pub list : First (of_record s (of_rows (top_row s) (bottom_row s) 64 end)) (number_of (listing.listed s))
 
 -- "A refusal returns its number and zeros for density, tracks, width, slice length and every other figure but the place."
 pub record Zeros (top bottom : List ℕ) : Type 0 where
-  pub rows : (most : ℕ) → counting.number_of (counting.row_check top bottom most) ≢ 0 → counting.size_of (counting.row_check top bottom most) ≡ counting.no_size
-  pub density : counting.count_number (counting.density_count top bottom) ≢ 0 → counting.count_density (counting.density_count top bottom) ≡ 0
-  pub need : routing.length_number_of (routing.need top bottom) ≢ 0 → routing.entries_of (routing.need top bottom) ≡ 0
+  pub rows : (most : ℕ) → number_of (counting.row_check top bottom most) ≢ 0 → counting.size_of (counting.row_check top bottom most) ≡ counting.no_size
+  pub density : number_of (counting.density_count top bottom) ≢ 0 → counting.count_density (counting.density_count top bottom) ≡ 0
+  pub need : number_of (routing.need top bottom) ≢ 0 → routing.entries_of (routing.need top bottom) ≡ 0
   pub route :
-      (most lent : ℕ) → routing.number_of (routing.answer top bottom most lent) ≢ 0 → routing.figures_of (routing.answer top bottom most lent) ≡ routing.no_figures
-  pub write : (lent : ℕ) → spelling.number_of (spelling.answer top bottom lent) ≢ 0 → spelling.length_of (spelling.answer top bottom lent) ≡ 0
+      (most lent : ℕ) → number_of (routing.answer top bottom most lent) ≢ 0 → routing.figures_of (routing.answer top bottom most lent) ≡ routing.no_figures
+  pub write : (lent : ℕ) → number_of (spelling.answer top bottom lent) ≢ 0 → spelling.length_of (spelling.answer top bottom lent) ≡ 0
 
 pub record ZerosRecord (s : List ℕ) : Type 0 where
-  pub read : reading.number (reading.record_read s) ≢ 0 → reading.columns (reading.record_read s) ≡ 0
-  pub list : listing.number_of (listing.listed s) ≢ 0 → listing.length_of (listing.listed s) ≡ 0
+  pub read : number_of (reading.record_read s) ≢ 0 → reading.columns (reading.record_read s) ≡ 0
+  pub list : number_of (listing.listed s) ≢ 0 → listing.length_of (listing.listed s) ≡ 0
 
 -- "For 13 to 15 the checker adds the lowest entry position, from 0; for 16 the lowest net number; its place is 0 otherwise."; for 17, document 02, Job 1,
 -- "The place is the lowest net number with a loose end"

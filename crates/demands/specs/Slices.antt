@@ -3,7 +3,7 @@
 use Rattle.std.specs.Prelude.{ℕ, ◌+◌, ◌*◌, ◌-◌, ◌≤◌, ◌<◌, ◌≡◌, ◌≢◌, ◌⊎◌, List, [], ◌++◌, length, drop, get_or}
 use Rattle.grid.specs.Channel.{sum, pins}
 use Rattle.grid.specs.Nets.{first_column, last_column, table}
-use Rattle.grid.specs.Refusals.{if_accepted}
+use Rattle.grid.specs.Refusals.{if_accepted, number_of}
 use Rattle.grid.specs.Answers as counting
 use Rattle.grid.specs.Grid.{column_of}
 use Rattle.grid.specs.View.{column_view}
@@ -23,29 +23,29 @@ use Rattle.canonical.specs.Canonical as spelling
 -- WHAT THE CALLS ON ROWS LEAVE
 -- of a table of the net facts that held `old`: that of the figure f of each net, or the old contents
 abbrev pub fact_after : (top bottom : List ℕ) (f : ℕ → ℕ) (most : ℕ) (old : List ℕ) → List ℕ
-fact_after top bottom f most old = if_accepted (counting.number_of (counting.row_check top bottom most)) (table f) old
+fact_after top bottom f most old = if_accepted (number_of (counting.row_check top bottom most)) (table f) old
 
 pub record LeavesSlices (top bottom : List ℕ) : Type 0 where
   -- "A refused call writes to no lent slice or table": routing, the net report, the three tables of the net facts, and the writing of the one spelling
-  pub route_refused : (most : ℕ) (old : List ℕ) → routing.number_of (routing.answer top bottom most (length old)) ≢ 0 → routing.written top bottom most old ≡ old
+  pub route_refused : (most : ℕ) (old : List ℕ) → number_of (routing.answer top bottom most (length old)) ≢ 0 → routing.written top bottom most old ≡ old
   pub report_refused : (drawing : Drawing) (D : List ℕ) (old : List NetRecord) → reporting.number_of (reporting.reported top bottom drawing D (length old)) ≢ 0
       → reporting.table_after top bottom drawing D old ≡ old
-  pub facts_refused : (most : ℕ) (old : List ℕ) → counting.number_of (counting.row_check top bottom most) ≢ 0
+  pub facts_refused : (most : ℕ) (old : List ℕ) → number_of (counting.row_check top bottom most) ≢ 0
       → (fact_after top bottom (first_column top bottom) most old ≡ old)
       × (fact_after top bottom (last_column top bottom) most old ≡ old)
       × (fact_after top bottom (pins top bottom) most old ≡ old)
-  pub write_refused : (old : List ℕ) → spelling.number_of (spelling.answer top bottom (length old)) ≢ 0 → spelling.bytes_after top bottom old ≡ old
+  pub write_refused : (old : List ℕ) → number_of (spelling.answer top bottom (length old)) ≢ 0 → spelling.bytes_after top bottom old ≡ old
   -- an accepted one writes the drawing, the 256 records, the tables, or the record's bytes, and keeps what stands behind
-  pub route_drawn : (most : ℕ) (old : List ℕ) → routing.number_of (routing.answer top bottom most (length old)) ≡ 0
+  pub route_drawn : (most : ℕ) (old : List ℕ) → number_of (routing.answer top bottom most (length old)) ≡ 0
       → routing.written top bottom most old ≡ layout top bottom ++ drop (length (layout top bottom)) old
   pub report_filled : (drawing : Drawing) (D : List ℕ) (old : List NetRecord) → reporting.number_of (reporting.reported top bottom drawing D (length old)) ≡ 0
       → reporting.table_after top bottom drawing D old ≡ reporting.records top bottom drawing D ++ drop 256 old
-  pub facts_filled : (most : ℕ) (old : List ℕ) → counting.number_of (counting.row_check top bottom most) ≡ 0
+  pub facts_filled : (most : ℕ) (old : List ℕ) → number_of (counting.row_check top bottom most) ≡ 0
       → (fact_after top bottom (first_column top bottom) most old ≡ table (first_column top bottom))
       × (fact_after top bottom (last_column top bottom) most old ≡ table (last_column top bottom))
       × (fact_after top bottom (pins top bottom) most old ≡ table (pins top bottom))
   -- document 02, Job 6: "Bytes behind the record keep their contents"
-  pub written : (old : List ℕ) → spelling.number_of (spelling.answer top bottom (length old)) ≡ 0
+  pub written : (old : List ℕ) → number_of (spelling.answer top bottom (length old)) ≡ 0
       → spelling.bytes_after top bottom old ≡ spelling.canonical top bottom ++ drop (6 + 4 * length top) old
 
 -- THE RECORDS that an accepted net report leaves in a table that held `old`; d serves for what lies past the table's end
@@ -69,19 +69,19 @@ pub record LeavesLengths (top bottom : List ℕ) (old : List NetRecord) (d : Net
 
 -- WHAT THE CALLS ON A RECORD LEAVE, of rows and a text that held `old`
 pub record LeavesRecord (s : List ℕ) : Type 0 where
-  pub rows_refused : (old : List ℕ) → reading.number (reading.record_read s) ≢ 0
-      → (if_accepted (reading.number (reading.record_read s)) (laid (top_row s) old) old ≡ old)
-      × (if_accepted (reading.number (reading.record_read s)) (laid (bottom_row s) old) old ≡ old)
-  pub rows_read : (old : List ℕ) → reading.number (reading.record_read s) ≡ 0
-      → (if_accepted (reading.number (reading.record_read s)) (laid (top_row s) old) old ≡ top_row s ++ drop (length (top_row s)) old)
-      × (if_accepted (reading.number (reading.record_read s)) (laid (bottom_row s) old) old ≡ bottom_row s ++ drop (length (bottom_row s)) old)
-  pub text_refused : (old : List ℕ) → listing.number_of (listing.listed s) ≢ 0
-      → if_accepted (listing.number_of (listing.listed s)) (laid (listing.text_of s) old) old ≡ old
-  pub text_listed : (old : List ℕ) → listing.number_of (listing.listed s) ≡ 0
-      → if_accepted (listing.number_of (listing.listed s)) (laid (listing.text_of s) old) old ≡ listing.text_of s ++ drop (length (listing.text_of s)) old
+  pub rows_refused : (old : List ℕ) → number_of (reading.record_read s) ≢ 0
+      → (if_accepted (number_of (reading.record_read s)) (laid (top_row s) old) old ≡ old)
+      × (if_accepted (number_of (reading.record_read s)) (laid (bottom_row s) old) old ≡ old)
+  pub rows_read : (old : List ℕ) → number_of (reading.record_read s) ≡ 0
+      → (if_accepted (number_of (reading.record_read s)) (laid (top_row s) old) old ≡ top_row s ++ drop (length (top_row s)) old)
+      × (if_accepted (number_of (reading.record_read s)) (laid (bottom_row s) old) old ≡ bottom_row s ++ drop (length (bottom_row s)) old)
+  pub text_refused : (old : List ℕ) → number_of (listing.listed s) ≢ 0
+      → if_accepted (number_of (listing.listed s)) (laid (listing.text_of s) old) old ≡ old
+  pub text_listed : (old : List ℕ) → number_of (listing.listed s) ≡ 0
+      → if_accepted (number_of (listing.listed s)) (laid (listing.text_of s) old) old ≡ listing.text_of s ++ drop (length (listing.text_of s)) old
   -- what `knee` writes: the listing; "On refusal it writes one line, as `refused 7`"
-  pub output_listed : listing.number_of (listing.listed s) ≡ 0 → listing.output s ≡ listing.text_of s
-  pub output_refused : listing.number_of (listing.listed s) ≢ 0 → listing.output s ≡ refusal (listing.number_of (listing.listed s))
+  pub output_listed : number_of (listing.listed s) ≡ 0 → listing.output s ≡ listing.text_of s
+  pub output_refused : number_of (listing.listed s) ≢ 0 → listing.output s ≡ refusal (number_of (listing.listed s))
 
 -- ONE COLUMN'S ENTRIES. "an empty part if w or t is over 511, the length is not w × (2t + 1), or the column is not 1 to w"
 abbrev pub NoColumn : (D : List ℕ) (w t c : ℕ) → Type 0

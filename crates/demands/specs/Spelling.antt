@@ -1,10 +1,10 @@
 -- Document 02, Job 6, "One spelling of a channel": the record that the call writes, read back and written again, and which channels get equal bytes.
-use Rattle.std.specs.Prelude.{ℕ, ◌+◌, ◌*◌, ◌≡◌, ◌↔◌, List, length, take}
+use Rattle.std.specs.Prelude.{ℕ, ◌+◌, ◌*◌, ◌≡◌, ◌↔◌, List, length, take, Ok}
+use Rattle.grid.specs.Refusals.{number_of}
 use Rattle.grid.specs.Channel.{density, tracks}
-use Rattle.record.specs.declared.Reading.TheVariants.{Channel}
 use Rattle.record.specs.Record.{record_read, top_row, bottom_row}
 use Rattle.canonical.specs.Renaming.{net_list, new_number, new_top, new_bottom, IsNet, Renames, InOrder}
-use Rattle.canonical.specs.Canonical.{number_of, answer, bytes_after}
+use Rattle.canonical.specs.Canonical.{answer, bytes_after}
 use Rattle.demands.specs.Table.{LetsThrough, end, of_rows}
 
 -- the first 6 + 4n bytes of a slice that held `old`, after the call
@@ -13,7 +13,7 @@ first_bytes top bottom old = take (6 + 4 * length top) (bytes_after top bottom o
 
 -- "Reading the bytes back gives the renamed channel": they are a record of n columns, with the renamed rows
 pub record ReadsBack (top bottom s : List ℕ) : Type 0 where
-  pub columns : record_read s ≡ Channel (length top)
+  pub columns : record_read s ≡ Ok (length top)
   pub tops : top_row s ≡ new_top top bottom
   pub bottoms : bottom_row s ≡ new_bottom top bottom
 

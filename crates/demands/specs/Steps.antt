@@ -3,7 +3,7 @@ use Rattle.std.specs.Prelude.{ℕ, ◌+◌, ◌*◌, ◌≤◌, ◌≡◌, ◌�
 use Rattle.grid.specs.Channel.{density, tracks}
 use Rattle.sweep.specs.Drawing.{drawn}
 use Rattle.router.specs.Answers.{width, layout, formula_length, written}
-use Rattle.stepwise.specs.Sweep.{State, start_refused, started, Starts, Stands, step_refused, stepped, late_refused}
+use Rattle.stepwise.specs.Sweep.{State, start_refused, started, start_figures, Starts, Stands, step_refused, stepped, step_figures, late_refused}
 use Rattle.stepwise.specs.Calls.{Call, Step, Place, Position, after, after_all, Leads}
 use Rattle.demands.specs.Table.{First, end, of_pair_rows, of_step, of_late_net}
 use Rattle.demands.specs.Beginnings.{TwoPinChannel, first_columns}
@@ -17,9 +17,9 @@ pub record DrivenRefuses (top bottom : List ℕ) : Type 0 where
 
 -- "A refusal returns its number and zeros for density, tracks, width, slice length and every other figure but the place."
 pub record DrivenZeros (top bottom : List ℕ) : Type 0 where
-  pub start : start_refused top bottom ≢ 0 → ((started top bottom).tracks ≡ 0) × ((started top bottom).length ≡ 0)
+  pub start : start_refused top bottom ≢ 0 → ((start_figures (started top bottom)).tracks ≡ 0) × ((start_figures (started top bottom)).length ≡ 0)
   pub step : (t c k lent : ℕ) → step_refused top bottom t c lent ≢ 0
-      → ((stepped top bottom t c k lent).drawn ≡ 0) × ((stepped top bottom t c k lent).finished ≡ false)
+      → ((step_figures (stepped top bottom t c k lent)).drawn ≡ 0) × ((step_figures (stepped top bottom t c k lent)).finished ≡ false)
 
 -- A SWEEP of rows that the table lets through, on the tracks of their density
 module _ (top bottom : List ℕ) where

@@ -1,5 +1,6 @@
 -- The third demand, whole: "a single claim about the whole list of columns and about all solutions of the channel".
 use Rattle.std.specs.Prelude.{ℕ, ◌+◌, ◌*◌, ◌-◌, ◌/◌, ◌≤◌, min, ◌≡◌, ◌≢◌, ◌⊎◌, ◌↔◌, List, ◌++◌, length, drop, get_or}
+use Rattle.grid.specs.Refusals.{number_of}
 use Rattle.grid.specs.Channel.{pins, left, density, tracks}
 use Rattle.grid.specs.Grid.{Wiring, Solution}
 use Rattle.grid.specs.Answers as counting
@@ -53,27 +54,27 @@ pub record ChannelDrawn (top bottom : List ℕ) : Type 0 where
   -- with the others: "at most d - 1"
   pub added_more : Others top bottom → width top bottom ≤ length top + (density top bottom - 1)
   -- the densities reported are the d of the definition: the row check's and the density call's
-  pub rows_density : (most : ℕ) → counting.number_of (counting.row_check top bottom most) ≡ 0 → (counting.size_of (counting.row_check top bottom most)).density ≡ density top bottom
+  pub rows_density : (most : ℕ) → number_of (counting.row_check top bottom most) ≡ 0 → (counting.size_of (counting.row_check top bottom most)).density ≡ density top bottom
   pub counted_density : counting.count_density (counting.density_count top bottom) ≡ density top bottom
 
 -- ROUTING, with a limit of columns `most` (256; 64 in `knee`; one over 256 stands for 256) and a slice that held `old`: it draws exactly when the table lets the call through
 pub record Routes (top bottom : List ℕ) (most : ℕ) (old : List ℕ) : Type 0 where
-  pub exactly : (routing.number_of (routing.answer top bottom most (length old)) ≡ 0) ↔ LetsThrough (of_rows top bottom (min most 256) (of_layout top bottom (length old)))
+  pub exactly : (number_of (routing.answer top bottom most (length old)) ≡ 0) ↔ LetsThrough (of_rows top bottom (min most 256) (of_layout top bottom (length old)))
   -- then it reports the density, tracks and width of the channel, and leaves the drawing in front of the old contents
-  pub reports : routing.number_of (routing.answer top bottom most (length old)) ≡ 0
+  pub reports : number_of (routing.answer top bottom most (length old)) ≡ 0
       → ((routing.figures_of (routing.answer top bottom most (length old))).density ≡ density top bottom)
       × ((routing.figures_of (routing.answer top bottom most (length old))).tracks ≡ tracks top bottom)
       × ((routing.figures_of (routing.answer top bottom most (length old))).width ≡ width top bottom)
-  pub draws : routing.number_of (routing.answer top bottom most (length old)) ≡ 0
+  pub draws : number_of (routing.answer top bottom most (length old)) ≡ 0
       → routing.written top bottom most old ≡ layout top bottom ++ drop (length (layout top bottom)) old
-  pub keeps : routing.number_of (routing.answer top bottom most (length old)) ≢ 0 → routing.written top bottom most old ≡ old
+  pub keeps : number_of (routing.answer top bottom most (length old)) ≢ 0 → routing.written top bottom most old ≡ old
 
 -- THE LISTING of a record: it lists exactly when the table lets the call through, and then the channel's figures and the columns of its drawing
 pub record ListsRecord (s : List ℕ) : Type 0 where
-  pub exactly : (listing.number_of (listing.listed s) ≡ 0) ↔ LetsThrough (of_record s (of_rows (top_row s) (bottom_row s) 64 end))
+  pub exactly : (number_of (listing.listed s) ≡ 0) ↔ LetsThrough (of_record s (of_rows (top_row s) (bottom_row s) 64 end))
   pub text : listing.text_of s
       ≡ drawing_text (density (top_row s) (bottom_row s)) (tracks (top_row s) (bottom_row s)) (width (top_row s) (bottom_row s)) (layout (top_row s) (bottom_row s))
-  pub reports : listing.number_of (listing.listed s) ≡ 0 → ChannelDrawn (top_row s) (bottom_row s)
+  pub reports : number_of (listing.listed s) ≡ 0 → ChannelDrawn (top_row s) (bottom_row s)
 
 -- THE THIRD DEMAND
 pub record ThirdDemand : Type 0 where

@@ -1,10 +1,11 @@
 -- Document 02, Job 12, "The widest drawing": "Die planners reserve columns at the right edge and want to know the worst." The channel that is written, that no
 -- other makes the router add more columns, and what the call answers and leaves.
 use Rattle.std.specs.Prelude.{ℕ, ◌+◌, ◌*◌, ◌/◌, ◌%◌, ◌≤◌, ◌≡◌, ◌≢◌, ◌⊎◌, ◌↔◌, List, length}
+use Rattle.grid.specs.Refusals.{number_of}
 use Rattle.grid.specs.Channel.{tracks}
 use Rattle.grid.specs.Answers as counting
 use Rattle.router.specs.Answers.{width}
-use Rattle.widest.specs.Widest.{widest_top, widest_bottom, number_of, columns_of, answer, top_after, bottom_after}
+use Rattle.widest.specs.Widest.{widest_top, widest_bottom, columns_of, answer, top_after, bottom_after}
 use Rattle.demands.specs.Table.{First, of_lent_rows}
 use Rattle.demands.specs.EmptyColumns.{Empty}
 use Rattle.demands.specs.Beginnings.{TwoPinChannel}
@@ -31,7 +32,7 @@ pub record WritesWidest (top bottom : List ℕ) : Type 0 where
   pub number : First (of_lent_rows (length top) (length bottom)) (number_of (answer (length top) (length bottom)))
   -- "4 and 5 hold for them as for rows that are read"
   pub as_read : (k : ℕ) → (k ≡ 4) ⊎ (k ≡ 5)
-      → (number_of (answer (length top) (length bottom)) ≡ k) ↔ (counting.number_of (counting.row_check top bottom 256) ≡ k)
+      → (number_of (answer (length top) (length bottom)) ≡ k) ↔ (number_of (counting.row_check top bottom 256) ≡ k)
   -- "A refusal returns its number and zeros for … every other figure"; "A refused call writes to no lent slice or table."
   pub zero : number_of (answer (length top) (length bottom)) ≢ 0 → columns_of (answer (length top) (length bottom)) ≡ 0
   pub keeps : number_of (answer (length top) (length bottom)) ≢ 0 → (top_after top bottom ≡ top) × (bottom_after top bottom ≡ bottom)

@@ -1,3 +1,2 @@
--- What the customer must believe of the calls for other languages; `Working` serves private functions alone.
+-- What the customer must believe of the calls for other languages.
 pub mod Export
-pub mod Working

@@ -16,7 +16,7 @@ pub extern "C" fn gaxwethi_board_start(
     ensures number { result ≡ board_refused n }
     ensures board { board_with columns.new top.new bottom.new counts.new ≡ board_of (start_channel n) }
 {
-    board::start(n, columns, top, bottom, counts)
+    grid::number_of(&board::start(n, columns, top, bottom, counts))
 }
 
 // Adds a net of two pins to a board.
@@ -35,9 +35,9 @@ pub extern "C" fn gaxwethi_board_add(
     ensures { Makes (Add net column1 side1 column2 side2) result (board_with columns top.old bottom.old counts.old)
         (board_with columns top.new bottom.new counts.new) }
 {
-    board::add(
+    grid::number_of(&board::add(
         columns, top, bottom, counts, net, column1, side1, column2, side2,
-    )
+    ))
 }
 
 // Drops a net from a board.
@@ -52,7 +52,7 @@ pub extern "C" fn gaxwethi_board_drop(
     ensures { Makes (Drop net) result (board_with columns top.old bottom.old counts.old)
         (board_with columns top.new bottom.new counts.new) }
 {
-    board::drop(columns, top, bottom, counts, net)
+    grid::number_of(&board::drop(columns, top, bottom, counts, net))
 }
 
 // The density of the channel on a board.

@@ -1,8 +1,37 @@
 // The calls of a sweep that its caller drives.
-ghost use Rattle.std.specs.Prelude.{◌≡◌, ◌≢◌, List, ℕ};
-ghost use Rattle.stepwise.specs.Sweep.{state_of, Stands, started, Starts, Steps, PlacesLate, KeptIfRefused};
+ghost use Rattle.std.specs.Prelude.{◌≡◌, ◌≢◌, List, ℕ, length};
+ghost use Rattle.stepwise.specs.Sweep.{state_of, Stands, started, stepped, Starts, Steps, PlacesLate, KeptIfRefused};
+ghost use Rattle.export.specs.Export.{start_of, step_of};
 
 use stepwise::{Started, Stepped};
+
+// What the call that begins a sweep answers: the number of its refusal, 0 for none, the tracks, and the slice length that each step needs.
+#[repr(C)]
+#[derive(Clone, Copy)]
+pub struct StartResult {
+    pub number: u16,
+    pub tracks: usize,
+    pub length: usize,
+}
+
+// What a step answers: the number of its refusal, 0 for none, the columns drawn so far, and whether all are drawn.
+#[repr(C)]
+#[derive(Clone, Copy)]
+pub struct StepResult {
+    pub number: u16,
+    pub drawn: usize,
+    pub finished: bool,
+}
+
+const NO_START: Started = Started {
+    tracks: 0,
+    length: 0,
+};
+
+const NO_STEP: Stepped = Stepped {
+    drawn: 0,
+    finished: false,
+};
 
 // Begins a sweep that the caller drives. The state, which the caller holds, is lent to each call of the sweep: three numbers, and arrays that pass as pointers.
 #[unsafe(no_mangle)]
@@ -22,16 +51,22 @@ pub extern "C" fn gaxwethi_sweep_start(
     high: &mut [u16; 257],
     many: &mut [u16; 257],
     extended: &mut [u64; 8],
-) -> Started
-    ensures answer { result ≡ started top.now bottom.now }
+) -> StartResult
+    ensures answer { result ≡ start_of (started top.now bottom.now) }
     ensures state { Starts top.now bottom.now (state_of columns.new tracks.new drawn.new
         upper.new lower.new first.new last.new strands.new free.new low.new
         high.new many.new extended.new) }
 {
-    stepwise::start(
+    let answer = stepwise::start(
         top, bottom, columns, tracks, drawn, upper, lower, first, last, strands, free, low, high,
         many, extended,
-    )
+    );
+    let started = answer.unwrap_or(NO_START);
+    StartResult {
+        number: grid::number_of(&answer),
+        tracks: started.tracks,
+        length: started.length,
+    }
 }
 
 // Draws up to k columns more of such a sweep.
@@ -52,11 +87,12 @@ pub extern "C" fn gaxwethi_sweep_step(
     extended: &mut [u64; 8],
     layout: &mut [u16],
     k: usize,
-) -> Stepped
+) -> StepResult
     ensures channel { (top bottom : List ℕ) (t c : ℕ) → Stands top bottom t c (state_of columns tracks drawn.old upper.now
         lower.now first.now last.now strands.old free.old low.old high.old
         many.old extended.old)
-        → Steps top bottom t c k layout.old layout.new result (state_of columns tracks drawn.new upper.now
+        → (result ≡ step_of (stepped top bottom t c k (length layout.old)))
+        × Steps top bottom t c k layout.old layout.new (stepped top bottom t c k (length layout.old)) (state_of columns tracks drawn.new upper.now
         lower.now first.now last.now strands.new free.new low.new high.new
         many.new extended.new) }
     ensures refused { KeptIfRefused result.number (state_of columns tracks drawn.old upper.now
@@ -66,10 +102,16 @@ pub extern "C" fn gaxwethi_sweep_step(
         many.new extended.new) }
     ensures slice { result.number ≢ 0 → layout.new ≡ layout.old }
 {
-    stepwise::step(
+    let answer = stepwise::step(
         columns, tracks, drawn, upper, lower, first, last, strands, free, low, high, many,
         extended, layout, k,
-    )
+    );
+    let stepped = answer.unwrap_or(NO_STEP);
+    StepResult {
+        number: grid::number_of(&answer),
+        drawn: stepped.drawn,
+        finished: stepped.finished,
+    }
 }
 
 // Places a late net in the channel of such a sweep.
@@ -96,7 +138,7 @@ pub extern "C" fn gaxwethi_sweep_place(
         upper.old lower.old first.old last.old strands free low high many extended) (state_of columns tracks drawn
         upper.new lower.new first.new last.new strands free low high many extended) }
 {
-    stepwise::place(
+    grid::number_of(&stepwise::place(
         columns, tracks, drawn, upper, lower, first, last, net, column1, side1, column2, side2,
-    )
+    ))
 }

@@ -5,17 +5,18 @@ use mathlib.Core.Bool.{Bool, true, false, not, ◌||◌}
 use mathlib.Core.Logic.{◌≢◌}
 use mathlib.Core.List.{List}
 use native.Mathlib.Omega.{arith}
+use Rattle.std.proofs.Common.{rules}
 use lib.Dec.{eqb, ltb}
 use lib.ListN.{length}
-use Rattle.grid.specs.declared.RowCheck.{RowCheck}
-use Rattle.grid.specs.declared.RowCheck.TheVariants.{Fit, Refused}
+use Rattle.std.specs.Prelude.{Result, Ok, Err}
+use Rattle.grid.specs.declared.refusals.Refusal.{Refusal}
 use Rattle.grid.specs.declared.Size.{Size}
-use Rattle.grid.specs.declared.DensityCount.{DensityCount}
-use Rattle.grid.specs.declared.DensityCount.TheVariants as dc
+use Rattle.grid.specs.declared.NetFacts.{NetFacts}
 use Rattle.grid.specs.Channel.{pick, over, pins, family, density, rows_refused}
-use Rattle.grid.specs.Refusals.{first_refusal, if_accepted}
-use Rattle.grid.specs.Answers.{number_of, no_size, size_of, check_of, count_number, count_density, count_of, refused_within, accepted_size, row_check, density_count}
-use Rattle.grid.specs.Working.{sizes_refused, Rows, some_to}
+use Rattle.grid.specs.Refusals.{first_refusal, if_accepted, number, number_of}
+use Rattle.grid.specs.Answers.{no_size, size_of, count_density, refused_within, accepted_size, accepted_facts, row_check, facts_check, density_count}
+use Rattle.grid.proofs.Numbers.{pick_within, number_answer, figures_answer, accepted_by, refused_by, refused_is, accepted_is}
+use Rattle.grid.specs.Working.{sizes_refused, Rows, Filled, some_to}
 use Rattle.grid.proofs.Tests.{eqb-true, ltb-false, not-false, eq-eqb, ne_eqb, lt-ltb, le-ltb, or_false, pick_past}
 use Rattle.grid.proofs.Rows.{rows_more}
 
@@ -89,61 +90,92 @@ module _ (top bottom : List ℕ) (most : ℕ) where
   pub case_7 : sizes_refused top bottom (min most 256) ≡ 0 → (q : Bool) → some_to (λ v. eqb (pins top bottom v) 1) 256 ≡ q → pick q 7 0 ≡ refused_within top bottom most
   case_7 e q o = sym (after_sizes top bottom (min most 256) ∙ ap₂ (λ (z : ℕ) (q : Bool). first_refusal z (pick q 7 0)) e o)
 
-  -- the answer with a number, and what else is asked of accepted rows
-  pub refused_with_lem : {A : Type 0} (k : ℕ) → k ≢ 0 → k ≡ refused_within top bottom most → (Refused k ≡ row_check top bottom most) × (refused_within top bottom most ≡ 0 → A)
+module _ (top bottom : List ℕ) (most : ℕ) where
+  -- the row check's answer with a number
+  pub refused_with : (r : Refusal) → number r ≡ refused_within top bottom most → Err r ≡ row_check top bottom most
   unfolding row_check
-  refused_with_lem zero n e = absurd (n refl)
-  refused_with_lem (suc k) n e = (ap (λ (n : ℕ). check_of n (accepted_size top bottom)) e, λ z. absurd (omega arith))
+  refused_with r e = refused_is (refused_within top bottom most) (accepted_size top bottom) r e
 
   -- and with none
-  pub fit_by : refused_within top bottom most ≡ 0 → Fit (accepted_size top bottom) ≡ row_check top bottom most
+  pub fit_by : refused_within top bottom most ≡ 0 → Ok (accepted_size top bottom) ≡ row_check top bottom most
   unfolding row_check
-  fit_by e = sym (ap (λ (n : ℕ). check_of n (accepted_size top bottom)) e)
+  fit_by e = accepted_is (refused_within top bottom most) (accepted_size top bottom) _ e refl
+
+-- the numbers are those of the table
+pub rows_within : (top bottom : List ℕ) (most : ℕ) → rows_refused top bottom most ≤ 24
+unfolding rows_refused
+rows_within top bottom most = search (rules, pick_within) depth 12
 
 -- NUMBER AND FIGURES
-
--- the number and the figures of an answer made by a number
-check_parts : (k : ℕ) (s : Size) → (number_of (check_of k s) ≡ k) × (size_of (check_of k s) ≡ if_accepted k s no_size)
-check_parts zero s = (refl, refl)
-check_parts (suc k) s = (refl, refl)
-
-count_parts : (k d : ℕ) → (count_number (count_of k d) ≡ k) × (count_density (count_of k d) ≡ if_accepted k d 0)
-count_parts zero d = (refl, refl)
-count_parts (suc k) d = (refl, refl)
 
 module _ (top bottom : List ℕ) where
   -- the row check's number is that of the definition
   pub check_number : (most : ℕ) → number_of (row_check top bottom most) ≡ refused_within top bottom most
   unfolding row_check
-  check_number most = (check_parts (refused_within top bottom most) (accepted_size top bottom)).0
+  check_number most = number_answer _ _ (rows_within top bottom (min most 256))
 
   -- and its figures are the rows' on acceptance and zeros on refusal
   pub check_figures : (most : ℕ) → size_of (row_check top bottom most) ≡ if_accepted (refused_within top bottom most) (accepted_size top bottom) no_size
   unfolding row_check
-  check_figures most = (check_parts (refused_within top bottom most) (accepted_size top bottom)).1
+  check_figures most = figures_answer no_size (refused_within top bottom most) (accepted_size top bottom)
+
+  -- its number with the facts
+  pub facts-number : (most : ℕ) → number_of (facts_check top bottom most) ≡ refused_within top bottom most
+  unfolding facts_check
+  facts-number most = number_answer _ _ (rows_within top bottom (min most 256))
 
   -- so of the density call
-  pub density-number : count_number (density_count top bottom) ≡ rows_refused top bottom 256
+  pub density-number : number_of (density_count top bottom) ≡ rows_refused top bottom 256
   unfolding density_count
-  density-number = (count_parts (rows_refused top bottom 256) (density top bottom)).0
+  density-number = number_answer _ _ (rows_within top bottom 256)
 
   pub density_figure : count_density (density_count top bottom) ≡ if_accepted (rows_refused top bottom 256) (density top bottom) 0
   unfolding density_count
-  density_figure = (count_parts (rows_refused top bottom 256) (density top bottom)).1
+  density_figure = figures_answer 0 (rows_refused top bottom 256) (density top bottom)
 
   -- what a call that answers the row check promises of it
-  pub rows_promise : (most : ℕ) (r : RowCheck) → r ≡ row_check top bottom most
+  pub rows_promise : (most : ℕ) (r : Result Size Refusal) → r ≡ row_check top bottom most
       → (number_of r ≡ refused_within top bottom most) × (size_of r ≡ if_accepted (number_of r) (accepted_size top bottom) no_size)
   rows_promise most r e =
       let n = ap number_of e ∙ check_number most in
       (n, ap size_of e ∙ check_figures most ∙ ap (λ (k : ℕ). if_accepted k (accepted_size top bottom) no_size) (sym n))
 
   -- and of the density
-  pub density_promise : (r : DensityCount) → r ≡ density_count top bottom
-      → (count_number r ≡ rows_refused top bottom 256) × (count_density r ≡ if_accepted (count_number r) (density top bottom) 0)
+  pub density_promise : (r : Result ℕ Refusal) → r ≡ density_count top bottom
+      → (number_of r ≡ rows_refused top bottom 256) × (count_density r ≡ if_accepted (number_of r) (density top bottom) 0)
   density_promise r e =
-      let n = ap count_number e ∙ density-number in
+      let n = ap number_of e ∙ density-number in
       (n, ap count_density e ∙ density_figure ∙ ap (λ (k : ℕ). if_accepted k (density top bottom) 0) (sym n))
+
+  -- the density call's answer where the row check has one
+  pub density_refused : (r : Refusal) → number r ≡ rows_refused top bottom 256 → Err r ≡ density_count top bottom
+  unfolding density_count
+  density_refused r e = refused_is (rows_refused top bottom 256) (density top bottom) r e
+
+  pub density_told : (s : Size) → Ok s ≡ row_check top bottom 256 → Ok s.density ≡ density_count top bottom
+  unfolding density_count row_check
+  density_told s e =
+      let (z, f) = accepted_by (rows_refused top bottom 256) (accepted_size top bottom) s e in
+      accepted_is (rows_refused top bottom 256) (density top bottom) s.density z (ap (λ (s : Size). s.density) f)
+
+  -- and the call with the facts of the nets
+  pub facts_refused : (most : ℕ) (r : Refusal) → Err r ≡ row_check top bottom most → Err r ≡ facts_check top bottom most
+  unfolding facts_check row_check
+  facts_refused most r e =
+      refused_is (refused_within top bottom most) (accepted_facts top bottom) r
+      (refused_by (refused_within top bottom most) (accepted_size top bottom) r (rows_within top bottom (min most 256)) e)
+
+  pub facts_told : (most : ℕ) (s : Size) (first last counts : List ℕ) → Ok s ≡ row_check top bottom most
+      → (refused_within top bottom most ≡ 0 → Filled top bottom first last counts)
+      → Ok (record { size = s; first = first; last = last; pins = counts }) ≡ facts_check top bottom most
+  unfolding facts_check row_check
+  facts_told most s first last counts e f =
+      let (z, i) = accepted_by (refused_within top bottom most) (accepted_size top bottom) s e in
+      let g : Filled top bottom first last counts = f z in
+      let a = g.firsts in
+      let b = g.lasts in
+      let p = g.pinned in
+      accepted_is (refused_within top bottom most) (accepted_facts top bottom) _ z (cc)
 
 -- FOR CALLERS OF THE ROW CHECK
 
@@ -151,31 +183,25 @@ module _ (top bottom : List ℕ) where
 pub accepted : (top bottom : List ℕ) (most : ℕ) → refused_within top bottom most ≡ 0 → rows_refused top bottom 256 ≡ 0
 accepted top bottom most e = rows_more top bottom (min most 256) 256 (omega arith) e
 
--- accepted rows and their figures, as the answer `Fit` holds them
+-- accepted rows and their figures
 pub record Told (top bottom : List ℕ) (most : ℕ) (s : Size) : Type 0 where
   pub number : refused_within top bottom most ≡ 0
   pub columns : s.columns ≡ length top
   pub figure : s.density ≡ density top bottom
   pub family : s.family ≡ family top bottom
 
--- an answer `Fit`
-pub told : (top bottom : List ℕ) (most : ℕ) (r : RowCheck) (s : Size) → r ≡ row_check top bottom most → r ≡ Fit s → Told top bottom most s
+-- an answer with a size
+pub told : (top bottom : List ℕ) (most : ℕ) (r : Result Size Refusal) (s : Size) → r ≡ row_check top bottom most → r ≡ Ok s → Told top bottom most s
 unfolding row_check
-told top bottom most r s e f = go (refused_within top bottom most) refl (sym f ∙ e)
-  where
-    go : (k : ℕ) → refused_within top bottom most ≡ k → Fit s ≡ check_of k (accepted_size top bottom) → Told top bottom most s
-    go zero n g = record { number = n; columns = (cc); figure = (cc); family = (cc) }
-    go (suc k) n g = absurd (let z : ◌≡◌ {A = ℕ} 0 1 = cc in omega arith)
+told top bottom most r s e f =
+    let (n, a) = accepted_by (refused_within top bottom most) (accepted_size top bottom) s (sym f ∙ e) in
+    record { number = n; columns = (cc); figure = (cc); family = (cc) }
 
--- an answer `Refused`
-pub refused : (top bottom : List ℕ) (most : ℕ) (r : RowCheck) (j : ℕ) → r ≡ row_check top bottom most → r ≡ Refused j → refused_within top bottom most ≢ 0
-unfolding row_check
-refused top bottom most r j e f n = let z : ◌≡◌ {A = ℕ} 0 1 = cc (ap (λ (k : ℕ). check_of k (accepted_size top bottom)) n) in omega arith
-
--- the density call's answer to rows that the row check refuses
-pub count-refused : (k d : ℕ) → k ≢ 0 → dc.Refused k ≡ count_of k d
-count-refused zero d n = absurd (n refl)
-count-refused (suc k) d n = refl
+-- and one with the facts of the nets
+pub told_facts : (top bottom : List ℕ) (most : ℕ) (r : Result NetFacts Refusal) (f : NetFacts) → r ≡ facts_check top bottom most → r ≡ Ok f
+    → (refused_within top bottom most ≡ 0) × (f ≡ accepted_facts top bottom)
+unfolding facts_check
+told_facts top bottom most r f e i = accepted_by (refused_within top bottom most) (accepted_facts top bottom) f (sym i ∙ e)
 
 -- a value on acceptance
 pub accepted_new : {A : Type 0} (k : ℕ) (new old : A) → k ≡ 0 → if_accepted k new old ≡ new

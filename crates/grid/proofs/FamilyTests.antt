@@ -15,7 +15,7 @@ use Rattle.grid.specs.Working.{Rows, some_to, first_two_by}
 use Rattle.grid.proofs.Tests.{eq-eqb, ne_eqb, Same, diff, same_by}
 use Rattle.grid.proofs.Rows.{pin_left}
 use Rattle.grid.proofs.Nets.{FirstSide, seen, none, ahead, first_by}
-use Rattle.grid.proofs.Scanning.{none_over}
+use Rattle.grid.proofs.Scanning.{none_over, Passed}
 use Rattle.grid.proofs.Tables.{at_net}
 
 -- THE FIRST TWO PINS IN ONE COLUMN
@@ -60,11 +60,16 @@ module _ (top bottom first counts : List ℕ) (rows : Rows top bottom) (ef : fir
           (ap₂ ◌&&◌ (ap (λ (x : ℕ). eqb x 3) k) (ap (λ (x : ℕ). eqb x (suc c)) f ∙ sym (starts top bottom v c n h refl)))
 
   -- one column more, over the code's variables
-  pub first_two_more : (c : ℕ) → c < length top → (found r : Bool) (n : ℕ) → n ≡ c + 1 → found ≡ first_two_to top bottom c
-      → r ≡ first_two_by first counts n (get_or top c 0) (get_or bottom c 0) → (found || r) ≡ first_two_to top bottom (c + 1)
+  pub first_two_more : (c p q : ℕ) → Passed top bottom c p q → (found r : Bool) (n : ℕ) → n ≡ c + 1 → found ≡ first_two_to top bottom c
+      → r ≡ first_two_by first counts n p q → (found || r) ≡ first_two_to top bottom (c + 1)
   unfolding first_two_to
-  first_two_more c h found r n en e er =
-      ap₂ ◌||◌ e (er ∙ ap (λ (m : ℕ). first_two_by first counts m (get_or top c 0) (get_or bottom c 0)) (en ∙ add-one c) ∙ by_tables c h)
+  first_two_more c p q w found r n en e er =
+      ap₂ ◌||◌ e (
+      er
+      ∙ ap (λ (m : ℕ). first_two_by first counts m p q) (en ∙ add-one c)
+      ∙ ap₂ (λ (x y : ℕ). first_two_by first counts (suc c) x y) w.above w.below
+      ∙ by_tables c w.inside
+      )
       ∙ ap (first_two_to top bottom) (sym (add-one c))
 
 -- no column

@@ -15,6 +15,7 @@ pub mod Scanning
 pub mod Tables
 pub mod OpenNets
 pub mod FamilyTests
+pub mod Numbers
 pub mod Answers
 pub mod Views
 -- the document's cases, computed

@@ -1,6 +1,9 @@
 -- Sums of two figures at most, and tests over the numbers 1 to k. Assumes nothing.
-use Prim.Native.Nat.{ℕ, zero, suc, ◌+◌, ◌≤◌, ◌<◌}
-use mathlib.Core.Path.{◌≡◌, refl, sym, ap, ap₂}
+use Prim.Native.Nat.{ℕ, zero, suc, ◌+◌, ◌-◌, ◌≤◌, ◌<◌}
+use mathlib.Core.Path.{◌≡◌, refl, sym, ap, ap₂, ◌∙◌}
+use mathlib.Core.List.{List}
+use lib.ListN.{length, get_or, take, drop}
+use Rattle.std.proofs.lemmas.Grind.{common_steps}
 use mathlib.Core.Logic.{◌≢◌}
 use mathlib.Core.Bool.{Bool, true, false, not, ◌||◌}
 use native.Mathlib.Omega.{arith}
@@ -110,3 +113,10 @@ count_at_least p m (suc k) l h = go (ℕ_discrete m (suc k)) (λ n q f. count_at
     go : Dec (m ≡ suc k) → ((n : ℕ) → n ≤ k → ((v : ℕ) → 1 ≤ v → v ≤ n → p v ≡ true) → n ≤ count p k) → m ≤ count p k + bit (p (suc k))
     go (yes e) ih = omega (arith, ih k (omega arith) (λ v a b. h v a (omega arith)), ap bit (h (suc k) (omega arith) (omega arith)))
     go (no n) ih = omega (arith, ih m (omega arith) h)
+
+-- one place more of those after the first of a list
+pub some_next : (q : ℕ → Bool) (l : List ℕ) (i : ℕ) (b : Bool) → i < length (take (length l - 1) (drop 1 l)) → b ≡ some_to (λ v. q (get_or l v 0)) i
+    → (b || q (get_or (take (length l - 1) (drop 1 l)) i 0)) ≡ some_to (λ v. q (get_or l v 0)) (i + 1)
+some_next q l i b h e =
+    let at : get_or (take (length l - 1) (drop 1 l)) i 0 ≡ get_or l (i + 1) 0 = grind (arith, common_steps) in
+    ap₂ (λ (a : Bool) (x : ℕ). a || q x) e at ∙ sym (some_more (λ v. q (get_or l v 0)) i)

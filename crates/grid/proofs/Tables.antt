@@ -14,6 +14,7 @@ use Rattle.grid.specs.Working.{ByNet, some_to}
 use Rattle.grid.proofs.Tests.{eq-eqb, ne_eqb, Same, same, diff, same_by, bit_most}
 use Rattle.grid.proofs.Counting.{zeros}
 use Rattle.grid.proofs.Sums.{some_same}
+use Rattle.grid.proofs.Scanning.{Passed}
 use Rattle.grid.proofs.Rows.{before, no_right, left-right, left_suc}
 
 -- TABLES
@@ -131,29 +132,29 @@ module _ (top bottom : List ℕ) (i : ℕ) (counts : List ℕ) (n : Counted top 
     at = λ v a b. n.nets.at v a b ∙ ap (λ (x : ℕ). left top bottom x v) e ∙ omega (arith, left-right top bottom v (length top), no_right top bottom v (omega arith));
   }
 
-  module _ (short : i < 256) (p : ℕ) (hp : p ≤ 256) where
+  module _ (p q : ℕ) (w : Passed top bottom i p q) where
     -- room for the column's first pin
     pub first_pin_room : PinRoom counts p
-    first_pin_room = (omega (arith, n.nets.size), omega (arith, n.few p))
+    first_pin_room = (omega (arith, n.nets.size, w.net), omega (arith, n.few p, w.few))
 
-    module _ (q : ℕ) (hq : q ≤ 256) (k₁ : List ℕ) (e : k₁ ≡ tallied counts p) where
+    module _ (k₁ : List ℕ) (e : k₁ ≡ tallied counts p) where
       -- and for its second
       pub second_pin_room : PinRoom k₁ q
       second_pin_room =
-          let t = ap (λ (m : List ℕ). get_or m q 0) e ∙ tallied_at counts p q (omega (arith, n.nets.size)) in
+          let t = ap (λ (m : List ℕ). get_or m q 0) e ∙ tallied_at counts p q (omega (arith, n.nets.size, w.net)) in
           let z : length k₁ ≡ 257 = ap length e ∙ simp length-set n.nets.size in
-          (omega arith, omega (arith, n.few q, bit_most (eqb p q)))
+          (omega (arith, w.other), omega (arith, n.few q, w.few, bit_most (eqb p q)))
 
       -- both pins of column i + 1 are counted
-      pub counted_column : (k₂ : List ℕ) → k₂ ≡ tallied k₁ q → p ≡ get_or top i 0 → q ≡ get_or bottom i 0 → Counted top bottom (i + 1) k₂
-      counted_column k₂ g ep eq = record {
+      pub counted_column : (k₂ : List ℕ) → k₂ ≡ tallied k₁ q → Counted top bottom (i + 1) k₂
+      counted_column k₂ g = record {
         nets = record {
           size = ap length g ∙ simp length-set (ap length e ∙ simp length-set n.nets.size);
           at = λ v a b.
               let l = n.nets.at v a b in
               let m = left_suc top bottom v i (omega arith) in
-              let bp = ap (λ (x : ℕ). bit (eqb x v)) ep in
-              let bq = ap (λ (x : ℕ). bit (eqb x v)) eq in
+              let bp = ap (λ (x : ℕ). bit (eqb x v)) w.above in
+              let bq = ap (λ (x : ℕ). bit (eqb x v)) w.below in
               let s = ap (λ (x : ℕ). left top bottom x v) (add-one i) in
               omega (arith, two v);
         };
@@ -163,8 +164,8 @@ module _ (top bottom : List ℕ) (i : ℕ) (counts : List ℕ) (n : Counted top 
           two : (v : ℕ) → get_or k₂ v 0 ≡ get_or counts v 0 + bit (eqb p v) + bit (eqb q v)
           two v =
               ap (λ (m : List ℕ). get_or m v 0) (g ∙ ap (λ (l : List ℕ). tallied l q) e)
-              ∙ tallied_at (tallied counts p) q v (simp length-set (omega (arith, n.nets.size)))
-              ∙ ap (λ (z : ℕ). z + bit (eqb q v)) (tallied_at counts p v (omega (arith, n.nets.size)))
+              ∙ tallied_at (tallied counts p) q v (simp length-set (omega (arith, n.nets.size, w.other)))
+              ∙ ap (λ (z : ℕ). z + bit (eqb q v)) (tallied_at counts p v (omega (arith, n.nets.size, w.net)))
 
 -- THE PASS FROM THE LEFT
 
@@ -183,21 +184,21 @@ module _ (top bottom : List ℕ) (i : ℕ) (last : List ℕ) (n : Noted top bott
   unfolding last_column
   noted_all e = record { size = n.size; at = λ v a b. n.at v a b ∙ ap (last_to top bottom v) e }
 
-  module _ (p q c : ℕ) (hp : p ≤ 256) (hq : q ≤ 256) (l₁ : List ℕ) (e : l₁ ≡ set last p c) where
+  module _ (p q c : ℕ) (w : Passed top bottom i p q) (l₁ : List ℕ) (e : l₁ ≡ set last p c) where
     -- the table after the column's first pin has the second's place
     pub second-place : q < length l₁
-    second-place = let z : length l₁ ≡ 257 = ap length e ∙ simp length-set n.size in omega arith
+    second-place = let z : length l₁ ≡ 257 = ap length e ∙ simp length-set n.size in omega (arith, w.other)
 
     -- both pins of column i + 1 are noted
-    pub noted_column : (l₂ : List ℕ) → l₂ ≡ set l₁ q c → c ≡ i + 1 → p ≡ get_or top i 0 → q ≡ get_or bottom i 0 → Noted top bottom (i + 1) l₂
+    pub noted_column : (l₂ : List ℕ) → l₂ ≡ set l₁ q c → c ≡ i + 1 → Noted top bottom (i + 1) l₂
     unfolding last_to is_pinned
-    noted_column l₂ g ec ep eq = record {
+    noted_column l₂ g ec = record {
       size = ap length twice ∙ simp length-set n.size;
       at = λ v a b.
           ap (λ (m : List ℕ). get_or m v 0) twice
-          ∙ two_pins last p q c v (omega (arith, n.size)) (omega (arith, n.size))
+          ∙ two_pins last p q c v (omega (arith, n.size, w.net)) (omega (arith, n.size, w.other))
           ∙ ap₂ (λ (c z : ℕ). pick (eqb p v || eqb q v) c z) (ec ∙ add-one i) (n.at v a b)
-          ∙ ap₂ (λ (x y : ℕ). pick (eqb x v || eqb y v) (suc i) (last_to top bottom v i)) ep eq
+          ∙ ap₂ (λ (x y : ℕ). pick (eqb x v || eqb y v) (suc i) (last_to top bottom v i)) w.above w.below
           ∙ ap (last_to top bottom v) (sym (add-one i));
     }
       where
@@ -238,14 +239,14 @@ module _ (top bottom : List ℕ) (i : ℕ) (first : List ℕ) (n : NotedAfter to
   noted_after_all e = record { size = n.size; at = λ v a b. ap (λ (x : ℕ). pick (eqb (first_to top bottom v x) 0) (get_or first v 0) (first_to top bottom v x)) (sym e) ∙ n.firsts v a b }
 
   -- both pins of column i are noted
-  pub noted_after_column : (j p q c : ℕ) → i ≡ j + 1 → c ≡ i → p ≤ 256 → q ≤ 256 → p ≡ get_or top j 0 → q ≡ get_or bottom j 0 → NotedAfter top bottom j (set (set first p c) q c)
+  pub noted_after_column : (j p q c : ℕ) → i ≡ j + 1 → c ≡ i → Passed top bottom j p q → NotedAfter top bottom j (set (set first p c) q c)
   unfolding first_to is_pinned
-  noted_after_column j p q c ei ec hp hq ep eq = record {
+  noted_after_column j p q c ei ec w = record {
     size = simp length-set n.size;
     firsts = λ v a b.
         ap (λ (x : ℕ). pick (eqb (first_to top bottom v j) 0) x (first_to top bottom v j))
-        (two_pins first p q c v (omega (arith, n.size)) (omega (arith, n.size))
-        ∙ ap₂ (λ (x y : ℕ). pick (eqb x v || eqb y v) c (get_or first v 0)) ep eq
+        (two_pins first p q c v (omega (arith, n.size, w.net)) (omega (arith, n.size, w.other))
+        ∙ ap₂ (λ (x y : ℕ). pick (eqb x v || eqb y v) c (get_or first v 0)) w.above w.below
         ∙ ap (λ (x : ℕ). pick (is_pinned top bottom v j) x (get_or first v 0)) (ec ∙ ei ∙ add-one j))
         ∙ first_back (is_pinned top bottom v j) (eqb (first_to top bottom v j) 0) (first_to top bottom v j) (get_or first v 0) j (same_by (first_to top bottom v j) 0)
         ∙ ap (λ (x : ℕ). pick (eqb (first_to top bottom v x) 0) (get_or first v 0) (first_to top bottom v x)) (sym (ei ∙ add-one j))

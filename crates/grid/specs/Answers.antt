@@ -1,47 +1,24 @@
 -- Document 01, "Refused, by place": the answers of the calls on rows, and the document's number and figures for each of their cases. "The number on
 -- acceptance is 0"; a refusal gives "zeros for density … and every other figure".
-use Rattle.std.specs.Prelude.{ℕ, zero, suc, min, List, length}
+use Rattle.std.specs.Prelude.{ℕ, min, List, length, Result}
 use Rattle.grid.specs.declared.Size.{Size}
+use Rattle.grid.specs.declared.NetFacts.{NetFacts}
 use Rattle.grid.specs.declared.Family.TheVariants.{TwoPin}
-use Rattle.grid.specs.declared.RowCheck.{RowCheck}
-use Rattle.grid.specs.declared.RowCheck.TheVariants.{Fit, Refused}
-use Rattle.grid.specs.declared.DensityCount.{DensityCount}
-use Rattle.grid.specs.declared.DensityCount.TheVariants as count
-use Rattle.grid.specs.Channel.{family, density, rows_refused}
+use Rattle.grid.specs.declared.refusals.Refusal.{Refusal}
+use Rattle.grid.specs.Channel.{family, density, pins, rows_refused}
+use Rattle.grid.specs.Nets.{first_column, last_column, table}
+use Rattle.grid.specs.Refusals.{answer_of, figures_or}
 
--- THE ROW CHECK
--- the number of its answer
-abbrev pub number_of : RowCheck → ℕ
-number_of (Fit s) = 0
-number_of (Refused k) = k
-
--- its figures, zeros on refusal. Refused rows have no family; TwoPin stands there
+-- THE FIGURES of an answer, zeros on refusal. Of the row check; refused rows have no family, and TwoPin stands there
 abbrev pub no_size : Size
 no_size = record { columns = 0; density = 0; family = TwoPin }
 
-abbrev pub size_of : RowCheck → Size
-size_of (Fit s) = s
-size_of (Refused k) = no_size
+abbrev pub size_of : Result Size Refusal → Size
+size_of r = figures_or no_size r
 
--- the answer with a number and figures
-abbrev pub check_of : ℕ → Size → RowCheck
-check_of zero s = Fit s
-check_of (suc k) s = Refused (suc k)
-
--- THE DENSITY CALL
--- the number and the density of its answer
-abbrev pub count_number : DensityCount → ℕ
-count_number (count.Is d) = 0
-count_number (count.Refused k) = k
-
-abbrev pub count_density : DensityCount → ℕ
-count_density (count.Is d) = d
-count_density (count.Refused k) = 0
-
--- the answer with a number and a density
-abbrev pub count_of : ℕ → ℕ → DensityCount
-count_of zero d = count.Is d
-count_of (suc k) d = count.Refused (suc k)
+-- of the density call
+abbrev pub count_density : Result ℕ Refusal → ℕ
+count_density r = figures_or 0 r
 
 -- WHAT THEY ANSWER
 module _ (top bottom : List ℕ) where
@@ -54,9 +31,22 @@ module _ (top bottom : List ℕ) where
   accepted_size = record { columns = length top; density = density top bottom; family = family top bottom }
 
   -- the row check
-  unfoldable pub row_check : (most : ℕ) → RowCheck
-  row_check most = check_of (refused_within most) accepted_size
+  unfoldable pub row_check : (most : ℕ) → Result Size Refusal
+  row_check most = answer_of (refused_within most) accepted_size
+
+  -- the facts of accepted rows: these figures, and the first column, the last column and the pins of each net
+  abbrev pub accepted_facts : NetFacts
+  accepted_facts = record {
+    size = accepted_size;
+    first = table (first_column top bottom);
+    last = table (last_column top bottom);
+    pins = table (pins top bottom);
+  }
+
+  -- the row check with them
+  unfoldable pub facts_check : (most : ℕ) → Result NetFacts Refusal
+  facts_check most = answer_of (refused_within most) accepted_facts
 
   -- the density call
-  unfoldable pub density_count : DensityCount
-  density_count = count_of (rows_refused top bottom 256) (density top bottom)
+  unfoldable pub density_count : Result ℕ Refusal
+  density_count = answer_of (rows_refused top bottom 256) (density top bottom)

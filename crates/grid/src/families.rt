@@ -5,18 +5,17 @@ ghost use Rattle.grid.specs.Nets.{first_column, table};
 ghost use Rattle.grid.specs.Working.{Rows, some_to, first_two_by};
 
 use crate::Family;
-use crate::spans::as_index;
 
 // Whether column c, with the pins p above and q below, has the first two pins of a net of three.
 fn has_first_two(p: u16, q: u16, c: u16, first: &[u16], pins: &[u16]) -> bool
     requires { (p < length first.now) × (p < length pins.now) }
     ensures { result ≡ first_two_by first.now pins.now c p q }
 {
-    let v = as_index(p);
+    let v = usize::from(p);
     (p != 0) & ((p == q) & ((pins[v] == 3) & (first[v] == c)))
 }
 
-// Whether a column of accepted rows has them.
+// Whether a column of accepted rows has them. By index, as the passes of spans.rt.
 fn first_two(top: &[u16], bottom: &[u16], first: &[u16], pins: &[u16]) -> bool
     requires { Rows top.now bottom.now
         × (first.now ≡ table (first_column top.now bottom.now))
@@ -24,12 +23,8 @@ fn first_two(top: &[u16], bottom: &[u16], first: &[u16], pins: &[u16]) -> bool
     ensures { result ≡ first_two_to top.now bottom.now (length top.now) }
 {
     let mut found = false;
-    let mut i = 0;
-    let mut c = 1u16;
-    while i < top.len() {
-        found = found | has_first_two(top[i], bottom[i], c, first, pins);
-        i += 1;
-        c += 1;
+    for i in 0..top.len() {
+        found |= has_first_two(top[i], bottom[i], i as u16 + 1, first, pins);
     }
     found
 }

@@ -1,23 +1,8 @@
 // The density: a running count of the open nets from their first and last columns.
-ghost use Rattle.std.specs.Prelude.{◌≡◌, ◌+◌, ◌-◌, ◌≤◌, ◌<◌, max, eqb, length};
-ghost use Rattle.grid.specs.Channel.{bit, density as density_of};
+ghost use Rattle.std.specs.Prelude.{◌≡◌, ◌+◌, ◌-◌, ◌≤◌, ◌<◌, length};
+ghost use Rattle.grid.specs.Channel.{density as density_of};
 ghost use Rattle.grid.specs.Nets.{first_column, last_column, table};
 ghost use Rattle.grid.specs.Working.{Rows, nets_on};
-
-use crate::spans::as_index;
-
-// 1 where a net's first or last column x is c.
-fn falls_on(x: u16, c: u16) -> usize
-    ensures { result ≡ bit (eqb x c) }
-{
-    if x == c { 1 } else { 0 }
-}
-
-fn larger(x: usize, y: usize) -> usize
-    ensures { result ≡ max x y }
-{
-    if x < y { y } else { x }
-}
 
 // The open nets right of column c, with pins of the nets p and q, where `here` are open left of it. A net that starts and ends in c counts in both figures.
 fn after(here: usize, c: u16, p: usize, q: usize, first: &[u16], last: &[u16]) -> usize
@@ -30,12 +15,12 @@ fn after(here: usize, c: u16, p: usize, q: usize, first: &[u16], last: &[u16]) -
     let g = first[q];
     let m = last[q];
     if p == q {
-        return here + falls_on(f, c) - falls_on(l, c);
+        return here + usize::from(f == c) - usize::from(l == c);
     }
-    here + falls_on(f, c) + falls_on(g, c) - falls_on(l, c) - falls_on(m, c)
+    here + usize::from(f == c) + usize::from(g == c) - usize::from(l == c) - usize::from(m == c)
 }
 
-// The density of accepted rows: the largest count over the gaps.
+// The density of accepted rows: the largest count over the gaps. By index, as the passes of spans.rt.
 pub(crate) fn largest_count(top: &[u16], bottom: &[u16], first: &[u16], last: &[u16]) -> usize
     requires { Rows top.now bottom.now
         × (first.now ≡ table (first_column top.now bottom.now))
@@ -44,13 +29,11 @@ pub(crate) fn largest_count(top: &[u16], bottom: &[u16], first: &[u16], last: &[
 {
     let mut here = 0;
     let mut most = 0;
-    let mut i = 0;
-    let mut c = 1u16;
-    while i + 1 < top.len() {
-        here = after(here, c, as_index(top[i]), as_index(bottom[i]), first, last);
-        most = larger(most, here);
-        i += 1;
-        c += 1;
+    for i in 0..top.len().saturating_sub(1) {
+        let p = usize::from(top[i]);
+        let q = usize::from(bottom[i]);
+        here = after(here, i as u16 + 1, p, q, first, last);
+        most = most.max(here);
     }
     most
 }

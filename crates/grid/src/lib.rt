@@ -3,22 +3,24 @@
 
 mod families;
 mod gaps;
+mod refusals;
 mod scan;
 mod spans;
 
 ghost use Rattle.std.specs.Prelude.{◌≡◌, min};
-ghost use Rattle.grid.specs.Channel.{over, pins as pins_of};
-ghost use Rattle.grid.specs.Nets.{first_column, last_column, table, zero_table};
+ghost use Rattle.grid.specs.Channel.{over, rows_refused, density as density_of};
+ghost use Rattle.grid.specs.Nets.{zero_table};
 ghost use Rattle.grid.specs.Places.{no_row};
-ghost use Rattle.grid.specs.Refusals.{if_accepted};
-ghost use Rattle.grid.specs.Channel.{rows_refused, density as density_of};
-ghost use Rattle.grid.specs.Answers.{number_of, size_of, no_size, count_number, count_density, refused_within, accepted_size, row_check, density_count};
+ghost use Rattle.grid.specs.Refusals.{if_accepted, number_of};
+ghost use Rattle.grid.specs.Answers.{size_of, no_size, count_density, refused_within, accepted_size, row_check, facts_check, density_count};
 ghost use Rattle.grid.specs.Working.{Filled, sizes_refused};
 ghost use Rattle.grid.specs.View.{no_part, column_part, column_view};
 
+pub use refusals::{Refusal, number_of};
+
 // The families of channels, each with a sweep of its own: each net has two pins; the largest has three, and none of these has its first two pins in one
 // column; or neither.
-#[derive(Clone, Copy)]
+#[derive(Clone, Copy, Debug, PartialEq, Eq)]
 pub enum Family {
     TwoPin,
     ThreePin,
@@ -33,16 +35,13 @@ pub struct Size {
     pub family: Family,
 }
 
+// What the row check finds of the nets: the size, and tables of each net's first column, last column and pin count, at its number.
 #[derive(Clone, Copy)]
-pub enum RowCheck {
-    Fit(Size),
-    Refused(u16),
-}
-
-#[derive(Clone, Copy)]
-pub enum DensityCount {
-    Is(usize),
-    Refused(u16),
+pub struct NetFacts {
+    pub size: Size,
+    pub first: [u16; 257],
+    pub last: [u16; 257],
+    pub pins: [u16; 257],
 }
 
 // A part of a layout: from which entry on, and how many entries.
@@ -66,17 +65,7 @@ pub struct Segments {
     pub top: u16,
 }
 
-// The number of the refusal, 0 for none.
-pub fn number_of(r: RowCheck) -> u16
-    ensures { result ≡ number_of r }
-{
-    match r {
-        RowCheck::Fit(_) => 0,
-        RowCheck::Refused(k) => k,
-    }
-}
-
-// A table of a figure of each net, at its number, with zeros for all of them: what `net_facts` is lent.
+// A table of a figure of each net, at its number, with zeros for all of them.
 pub fn zeros() -> [u16; 257]
     ensures { result ≡ zero_table }
 {
@@ -94,23 +83,23 @@ pub fn no_row() -> [u16; 256]
 pub fn columns_held(columns: usize) -> usize
     ensures { result ≡ min columns 256 }
 {
-    if columns < 256 { columns } else { 256 }
+    columns.min(256)
 }
 
-// Refusals 4 to 6 of the rows: lengths that differ, too many columns, a number over 256. 0 for none.
-fn sizes_refusal(top: &[u16], bottom: &[u16], most: usize) -> u16
-    ensures { result ≡ sizes_refused top.now bottom.now (min most 256) }
+// Refusals of the rows but the last: lengths that differ, too many columns, a number over 256.
+fn check_sizes(top: &[u16], bottom: &[u16], most: usize) -> Result<(), Refusal>
+    ensures { number_of result ≡ sizes_refused top.now bottom.now (min most 256) }
 {
     if top.len() != bottom.len() {
-        return 4;
+        return Err(Refusal::RowLengths);
     }
-    if scan::limit(most) < top.len() {
-        return 5;
+    if most.min(256) < top.len() {
+        return Err(Refusal::TooManyColumns);
     }
     if scan::has_over(top) | scan::has_over(bottom) {
-        return 6;
+        return Err(Refusal::NetNumber);
     }
-    0
+    Ok(())
 }
 
 // The row check, with three tables of zeros for its work. Of accepted rows they hold the facts of each net after it.
@@ -121,22 +110,19 @@ fn checked(
     first: &mut [u16],
     last: &mut [u16],
     pins: &mut [u16],
-) -> RowCheck
+) -> Result<Size, Refusal>
     requires { (first.old ≡ zero_table) × (last.old ≡ zero_table) × (pins.old ≡ zero_table) }
     ensures answer { result ≡ row_check top.now bottom.now most }
     ensures tables { refused_within top.now bottom.now most ≡ 0
         → Filled top.now bottom.now first.new last.new pins.new }
 {
-    let k = sizes_refusal(top, bottom, most);
-    if k != 0 {
-        return RowCheck::Refused(k);
-    }
+    check_sizes(top, bottom, most)?;
     spans::fill(top, bottom, first, last, pins);
     let tests = scan::tests(pins);
     if tests.single {
-        return RowCheck::Refused(7);
+        return Err(Refusal::SinglePin);
     }
-    RowCheck::Fit(Size {
+    Ok(Size {
         columns: top.len(),
         density: gaps::largest_count(top, bottom, first, last),
         family: families::family_of(top, bottom, first, pins, tests.three, tests.four),
@@ -144,7 +130,7 @@ fn checked(
 }
 
 // The row check. `most` is the largest number of columns; over 256 it stands for 256.
-pub fn check_rows(top: &[u16], bottom: &[u16], most: usize) -> RowCheck
+pub fn check_rows(top: &[u16], bottom: &[u16], most: usize) -> Result<Size, Refusal>
     ensures answer { result ≡ row_check top.now bottom.now most }
     ensures number { number_of result ≡ refused_within top.now bottom.now most }
     ensures figures { size_of result ≡ if_accepted (number_of result) (accepted_size top.now bottom.now) no_size }
@@ -155,47 +141,36 @@ pub fn check_rows(top: &[u16], bottom: &[u16], most: usize) -> RowCheck
     checked(top, bottom, most, &mut first, &mut last, &mut pins)
 }
 
-// The row check's number alone, 0 for none. It counts no density and finds no family.
-pub fn rows_refusal(top: &[u16], bottom: &[u16], most: usize) -> u16
-    ensures { result ≡ refused_within top.now bottom.now most }
+// The row check alone. It counts no density and finds no family.
+pub fn rows_refusal(top: &[u16], bottom: &[u16], most: usize) -> Result<(), Refusal>
+    ensures { number_of result ≡ refused_within top.now bottom.now most }
 {
-    let k = sizes_refusal(top, bottom, most);
-    if k != 0 {
-        return k;
-    }
+    check_sizes(top, bottom, most)?;
     let mut pins = zeros();
     spans::count_pins(top, bottom, &mut pins);
     let tests = scan::tests(&pins);
-    if tests.single { 7 } else { 0 }
+    if tests.single {
+        Err(Refusal::SinglePin)
+    } else {
+        Ok(())
+    }
 }
 
-// The row check, and the first column, last column and pin count of each net, at its number, of accepted rows. Refused rows leave the tables as they are.
-pub fn net_facts(
-    top: &[u16],
-    bottom: &[u16],
-    most: usize,
-    first: &mut [u16; 257],
-    last: &mut [u16; 257],
-    pins: &mut [u16; 257],
-) -> RowCheck
-    ensures answer { result ≡ row_check top.now bottom.now most }
-    ensures first { first.new ≡ if_accepted (number_of result) (table (first_column top.now bottom.now)) first.old }
-    ensures last { last.new ≡ if_accepted (number_of result) (table (last_column top.now bottom.now)) last.old }
-    ensures pins { pins.new ≡ if_accepted (number_of result) (table (pins_of top.now bottom.now)) pins.old }
+// The row check, and the first column, last column and pin count of each net of accepted rows.
+pub fn net_facts(top: &[u16], bottom: &[u16], most: usize) -> Result<NetFacts, Refusal>
+    ensures answer { result ≡ facts_check top.now bottom.now most }
     ensures number { number_of result ≡ refused_within top.now bottom.now most }
-    ensures figures { size_of result ≡ if_accepted (number_of result) (accepted_size top.now bottom.now) no_size }
 {
-    let mut firsts = zeros();
-    let mut lasts = zeros();
-    let mut counts = zeros();
-    let r = checked(top, bottom, most, &mut firsts, &mut lasts, &mut counts);
-    let RowCheck::Fit(_) = r else {
-        return r;
-    };
-    *first = firsts;
-    *last = lasts;
-    *pins = counts;
-    r
+    let mut first = zeros();
+    let mut last = zeros();
+    let mut pins = zeros();
+    let size = checked(top, bottom, most, &mut first, &mut last, &mut pins)?;
+    Ok(NetFacts {
+        size,
+        first,
+        last,
+        pins,
+    })
 }
 
 // Whether a slice has a number over 256.
@@ -206,16 +181,13 @@ pub fn has_over(numbers: &[u16]) -> bool
 }
 
 // The density of a channel.
-pub fn density(top: &[u16], bottom: &[u16]) -> DensityCount
+pub fn density(top: &[u16], bottom: &[u16]) -> Result<usize, Refusal>
     ensures answer { result ≡ density_count top.now bottom.now }
-    ensures number { count_number result ≡ rows_refused top.now bottom.now 256 }
-    ensures figure { count_density result ≡ if_accepted (count_number result) (density_of top.now bottom.now) 0 }
+    ensures number { number_of result ≡ rows_refused top.now bottom.now 256 }
+    ensures figure { count_density result ≡ if_accepted (number_of result) (density_of top.now bottom.now) 0 }
 {
-    let r = check_rows(top, bottom, 256);
-    let RowCheck::Fit(s) = r else {
-        return DensityCount::Refused(number_of(r));
-    };
-    DensityCount::Is(s.density)
+    let size = check_rows(top, bottom, 256)?;
+    Ok(size.density)
 }
 
 // The empty part.

@@ -1,5 +1,5 @@
 // The tests of the row check: numbers over 256 in a row, and the pin counts.
-ghost use Rattle.std.specs.Prelude.{◌≡◌, min, eqb, ltb, length, get_or};
+ghost use Rattle.std.specs.Prelude.{◌≡◌, eqb, ltb, length, get_or};
 ghost use Rattle.grid.specs.Channel.{over};
 ghost use Rattle.grid.specs.Working.{some_to};
 
@@ -11,24 +11,11 @@ pub(crate) struct Flags {
     pub four: bool,
 }
 
-// The largest number of columns: at most 256.
-pub(crate) fn limit(most: usize) -> usize
-    ensures { result ≡ min most 256 }
-{
-    if most < 256 { most } else { 256 }
-}
-
 // Whether a row has a number over 256.
 pub(crate) fn has_over(row: &[u16]) -> bool
     ensures { result ≡ over row.now }
 {
-    let mut found = false;
-    let mut i = 0;
-    while i < row.len() {
-        found = found | (256 < row[i]);
-        i += 1;
-    }
-    found
+    row.iter().fold(false, |found, &x| found | (256 < x))
 }
 
 // The tests over the pin counts of all nets.
@@ -41,13 +28,10 @@ pub(crate) fn tests(pins: &[u16]) -> Flags
     let mut single = false;
     let mut three = false;
     let mut four = false;
-    let mut v = 0;
-    while v < 256 {
-        v += 1;
-        let k = pins[v];
-        single = single | (k == 1);
-        three = three | (2 < k);
-        four = four | (3 < k);
+    for &k in &pins[1..] {
+        single |= k == 1;
+        three |= 2 < k;
+        four |= 3 < k;
     }
     Flags {
         single,

@@ -2,10 +2,15 @@
 use Prim.Native.Nat.{ℕ, zero, suc, ◌+◌, ◌-◌, ◌*◌, ◌≤◌, ◌<◌}
 use native.Mathlib.Omega.{arith}
 use native.Mathlib.Decide.{dec_lt, ℕ_discrete}
-use mathlib.Core.Logic.{◌≢◌, ⊎_elim}
+use mathlib.Core.Logic.{⊎_elim}
 use mathlib.Core.Path.{◌≡◌, refl, ap, sym, subst, ◌∙◌}
 use mathlib.Core.List.{List}
 use lib.ListN.{length, get_or, drop}
+use Rattle.std.specs.Prelude.{Ok, Err}
+use Rattle.grid.specs.declared.refusals.Refusal.{Refusal}
+use Rattle.grid.specs.Refusals.{number}
+use Rattle.grid.proofs.Numbers.{number_nonzero, refused_is, accepted_by}
+use Rattle.grid.proofs.Answers.{accepted_old}
 use Rattle.grid.specs.declared.Family.{Family}
 use Rattle.grid.specs.declared.Family.TheVariants.{TwoPin, ThreePin, ManyPin}
 use Rattle.grid.specs.Channel.{density, tracks, family, pins, rows_refused}
@@ -13,38 +18,38 @@ use Rattle.grid.proofs.Rows.{rows_fit, rows_short, rows_more, two_density, three
 use Rattle.grid.proofs.Counting.{at_below}
 use Rattle.grid.proofs.Crossing.{density_few}
 use Rattle.router.specs.declared.Figures.{Figures}
-use Rattle.router.specs.declared.Routed.{Routed}
-use Rattle.router.specs.declared.Routed.TheVariants.{Drawn, Refused}
 use Rattle.router.specs.Answers.{width, layout}
-use Rattle.router.specs.Answers.{routed_by, formula_length, figures, refused, answer, written}
+use Rattle.router.specs.Answers.{formula_length, figures, refused, answer, written}
 use Rattle.router.proofs.Applied.{solved, layout-length, layout_fills, width_half, within_formula}
 use Rattle.router.proofs.Answered.{passes, refuses, written_drawn, written_length}
-use Rattle.listing.specs.declared.Listed.TheVariants as listed
 use Rattle.listing.specs.Text.{drawing_text}
 use Rattle.listing.specs.Listing.{channel_text}
-use Rattle.record.specs.Working.{Room, PutOver}
+use Rattle.record.specs.Record.{laid}
 use Rattle.listing.specs.Working.{Lists}
-use Rattle.record.proofs.Put.{put_laid, counted}
+use Rattle.record.proofs.Put.{counts_laid}
 use Rattle.listing.proofs.Front.{drawn_front}
-use Rattle.listing.proofs.Size.{drawn_room, figures_few}
+use Rattle.listing.proofs.Size.{drawn_size, figures_few}
 
 -- THE ANSWERS
--- a refusal: the number, and the text as it was
-pub refused_lists : (k j : ℕ) (new old : List ℕ) → k ≡ j → k ≢ 0 → Lists k new old (listed.Refused j) old
-refused_lists zero j new old e n = absurd (n refl)
-refused_lists (suc k) j new old e n = record { answer = ap listed.Refused (sym e); text = refl; counts = (omega arith, refl) }
+-- a refusal: its number, and the text as it was
+pub refused_lists : (k : ℕ) (j : Refusal) (new old : List ℕ) → number j ≡ k → Lists k new old (Err j) old
+refused_lists k j new old e = record {
+  answer = refused_is k (length new) j e;
+  text = sym (accepted_old k (laid new old) old (λ z. number_nonzero j (e ∙ z)));
+  counts = (omega arith, refl);
+}
 
 -- a text that was put
-pub put_lists : (k : ℕ) (new old : List ℕ) (e : ℕ) (now : List ℕ) → k ≡ 0 → PutOver old 0 new e now → Lists k new old (listed.Text e) now
-put_lists zero new old e now z p = record { answer = ap listed.Text (put_laid p).0; text = (put_laid p).1; counts = counted p }
-put_lists (suc k) new old e now z p = absurd (omega arith)
+pub put_lists : (k : ℕ) (new old : List ℕ) (e : ℕ) (now : List ℕ) → k ≡ 0 → length new ≤ length old → e ≡ length new → now ≡ laid new old → Lists k new old (Ok e) now
+put_lists zero new old e now z h f g = record { answer = ap Ok f; text = g; counts = counts_laid e new old now h f g }
+put_lists (suc k) new old e now z h f g = absurd (omega arith)
 
 -- THE DRAWING
 -- what the listing of a drawing asks: the figures and the slice that routing leaves
 pub record Drawable (top bottom : List ℕ) (x : Figures) (slice : List ℕ) : Type 0 where
   pub long : x.width * (2 * x.tracks + 1) ≤ length slice
   pub few : x.tracks ≤ 127
-  pub room : (text : List ℕ) → length text ≡ 131072 → Room text 0 (drawing_text x.density x.tracks x.width slice)
+  pub room : length (drawing_text x.density x.tracks x.width slice) ≤ 131072
   pub text : drawing_text x.density x.tracks x.width slice ≡ channel_text top bottom
 
 module _ (top bottom : List ℕ) where
@@ -101,9 +106,13 @@ module _ (top bottom : List ℕ) where
         record {
           long = omega (arith, written_length top bottom 64 old p, layout-length top bottom accepted, layout_fills top bottom accepted, within_formula top bottom accepted, small.2);
           few = small.0;
-          room = λ text e. subst (λ z. Room text 0 z) (sym f)
-              (drawn_room (layout top bottom) entries_few text (density top bottom) (tracks top bottom) (width top bottom) e
-              (omega (arith, density_few top bottom (rows_fit top bottom accepted).same, short)) small.0 small.1);
+          room =
+              omega (
+                arith,
+                ap length f,
+                drawn_size (layout top bottom) entries_few (density top bottom) (tracks top bottom) (width top bottom)
+                    (omega (arith, density_few top bottom (rows_fit top bottom accepted).same, short)) small.0 small.1,
+              );
           text = f;
         }
 
@@ -116,30 +125,16 @@ module _ (top bottom : List ℕ) where
       go zero e = drawn_by_lem e lent l
       go (suc k) e = refuses top bottom 64 lent (suc k) e (omega arith)
 
-  -- what it answers and leaves
-  module _ (old : List ℕ) (r : Routed) (l : 32385 ≡ length old) (e : r ≡ answer top bottom 64 (length old)) where
-    -- a refusal of the rows
-    pub channel_refused : (j : ℕ) (text : List ℕ) → r ≡ Refused j → Lists (rows_refused top bottom 64) (channel_text top bottom) text (listed.Refused j) text
-    unfolding answer
-    channel_refused j text f = go (refused top bottom 64 (length old)) refl (sym f ∙ e)
-      where
-        go : (k : ℕ) → refused top bottom 64 (length old) ≡ k → Refused j ≡ routed_by k (figures top bottom)
-            → Lists (rows_refused top bottom 64) (channel_text top bottom) text (listed.Refused j) text
-        go zero h g = absurd (let z : ◌≡◌ {A = ℕ} 0 1 = cc in omega arith)
-        go (suc k) h g =
-            let a : rows_refused top bottom 64 ≡ suc k = sym (rows_refused_lem (length old) l) ∙ h in
-            let b : j ≡ suc k = cc in
-            refused_lists (rows_refused top bottom 64) j (channel_text top bottom) text (a ∙ sym b) (omega arith)
+  -- what it answers and leaves: a refusal of the rows
+  pub channel_refused : (lent : ℕ) (j : Refusal) (text : List ℕ) → 32385 ≡ lent → number j ≡ refused top bottom 64 lent
+      → Lists (rows_refused top bottom 64) (channel_text top bottom) text (Err j) text
+  channel_refused lent j text l e = refused_lists (rows_refused top bottom 64) j (channel_text top bottom) text (e ∙ rows_refused_lem lent l)
 
-    -- or a drawing of accepted rows
-    pub channel_drawn : (x : Figures) (slice : List ℕ) → r ≡ Drawn x → slice ≡ written top bottom 64 old → (rows_refused top bottom 64 ≡ 0) × Drawable top bottom x slice
-    unfolding answer
-    channel_drawn x slice f g = go (refused top bottom 64 (length old)) refl (sym f ∙ e)
-      where
-        go : (k : ℕ) → refused top bottom 64 (length old) ≡ k → Drawn x ≡ routed_by k (figures top bottom)
-            → (rows_refused top bottom 64 ≡ 0) × Drawable top bottom x slice
-        go zero h d =
-            let a : rows_refused top bottom 64 ≡ 0 = sym (rows_refused_lem (length old) l) ∙ h in
-            let k : figures top bottom ≡ x = cc in
-            (a, subst (λ z. Drawable top bottom z slice) k (subst (λ z. Drawable top bottom (figures top bottom) z) (sym g) (leaves a old l)))
-        go (suc k) h d = absurd (let z : ◌≡◌ {A = ℕ} 0 1 = cc in omega arith)
+  -- or a drawing of accepted rows
+  pub channel_drawn : (old slice : List ℕ) (x : Figures) → 32385 ≡ length old → Ok x ≡ answer top bottom 64 (length old) → slice ≡ written top bottom 64 old
+      → (rows_refused top bottom 64 ≡ 0) × Drawable top bottom x slice
+  unfolding answer
+  channel_drawn old slice x l e f =
+      let (k, i) = accepted_by (refused top bottom 64 (length old)) (figures top bottom) x e in
+      let a : rows_refused top bottom 64 ≡ 0 = sym (rows_refused_lem (length old) l) ∙ k in
+      (a, subst (λ z. Drawable top bottom z slice) (sym i) (subst (λ z. Drawable top bottom (figures top bottom) z) (sym f) (leaves a old l)))

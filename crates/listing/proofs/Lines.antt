@@ -2,89 +2,70 @@
 use Prim.Native.Nat.{ℕ, suc, ◌+◌, ◌*◌, ◌/◌, ◌%◌, ◌≤◌, ◌<◌}
 use native.Mathlib.Omega.{arith}
 use native.Mathlib.Numerals.{add-one}
-use native.Mathlib.Nat.{add-mul, mul-le-mul_right}
-use mathlib.Core.Path.{◌≡◌, refl, ap, sym, subst, ◌∙◌}
+use native.Mathlib.Nat.{zero-add}
+use mathlib.Core.Path.{◌≡◌, ap, ap₂, sym, subst, ◌∙◌}
 use mathlib.Core.List.{List, [], ◌∷◌, ◌++◌}
-use lib.ListN.{length, get_or, take, length-append}
-use lib.Seq.{take-suc, take_all, length-take-le}
+use lib.ListN.{get_or, take, drop, length-append}
+use Rattle.record.specs.declared.writing.Writer.{Writer}
+use Rattle.record.specs.Working.{Room, Puts}
+use Rattle.record.proofs.Put.{put_then, put_as, step_room}
 use Rattle.listing.specs.Digits.{decimal}
 use Rattle.listing.specs.Text.{cells, line_at, lines}
-use Rattle.record.specs.Working.{Room, PutOver}
-use Rattle.record.proofs.Put.{put_then, put_as, step_room}
 use Rattle.listing.proofs.Digits.{decimal_small, decimal_large}
+use Rattle.listing.proofs.Front.{line_part}
 
--- one more byte of s
-pub bytes_more : {old : List ℕ} {at : ℕ} {m : ℕ} {mid : List ℕ} {e : ℕ} {now : List ℕ} (s : List ℕ) (i : ℕ) → i < length s
-    → PutOver old at (take i s) m mid → PutOver mid m (get_or s i 0 ∷ []) e now → PutOver old at (take (i + 1) s) e now
-bytes_more s i h p q = put_as (put_then p q) (take (i + 1) s) (sym (take-suc s i 0 h) ∙ sym (ap (λ z. take z s) (add-one i)))
+-- a number below ten has its last digit alone
+small_digit : (n : ℕ) → n < 10 → (48 + n % 10) ∷ [] ≡ decimal n
+small_digit n h = ap (λ d. (48 + d) ∷ []) (let e : n % 10 ≡ n = omega arith in e) ∙ sym (decimal_small n h)
 
--- room for it
-pub bytes_room : {old : List ℕ} {at : ℕ} {m : ℕ} {mid : List ℕ} (s : List ℕ) (i : ℕ) → i < length s
-    → PutOver old at (take i s) m mid → at + length s ≤ length old → m < length mid
-bytes_room s i h p r = omega (arith, p.ends, p.keeps, length-take-le i s (omega arith))
-
--- all of them
-pub bytes_all : {old : List ℕ} {at : ℕ} {m : ℕ} {now : List ℕ} (s : List ℕ) (i : ℕ) → length s ≤ i
-    → PutOver old at (take i s) m now → PutOver old at s m now
-bytes_all s i h p = put_as p s (take_all i s h)
-
--- a number below ten
-pub number_small : {old : List ℕ} {at : ℕ} {e : ℕ} {now : List ℕ} (n : ℕ) → n < 10
-    → PutOver old at ((48 + n) ∷ []) e now → PutOver old at (decimal n) e now
-number_small n h p = put_as p (decimal n) (sym (decimal_small n h))
+pub number_small : {u w : Writer} (n : ℕ) → n < 10 → Puts u ((48 + n % 10) ∷ []) w → Puts u (decimal n) w
+number_small n h p = put_as p (decimal n) (small_digit n h)
 
 -- a number from ten on
-pub number_large : {old : List ℕ} {at : ℕ} {m : ℕ} {mid : List ℕ} {e : ℕ} {now : List ℕ} (n : ℕ) → 10 ≤ n
-    → PutOver old at (decimal (n / 10)) m mid → PutOver mid m ((48 + n % 10) ∷ []) e now → PutOver old at (decimal n) e now
+pub number_large : {u v w : Writer} (n : ℕ) → 10 ≤ n → Puts u (decimal (n / 10)) v → Puts v ((48 + n % 10) ∷ []) w → Puts u (decimal n) w
 number_large n h p q = put_as (put_then p q) (decimal n) (sym (decimal_large n h))
 
 -- room for its digit
-pub small_room : {old : List ℕ} {at : ℕ} (n : ℕ) → n < 10 → Room old at (decimal n) → at < length old
-small_room n h r = omega (arith, r.room, ap length (decimal_small n h))
+pub small_room : {w : Writer} (n : ℕ) → n < 10 → Room w (decimal n) → Room w ((48 + n % 10) ∷ [])
+small_room {w} n h r = subst (λ z. Room w z) (sym (small_digit n h)) r
 
 -- room for the digits of the tenth part and the last one
-pub large_room : {old : List ℕ} {at : ℕ} (n : ℕ) → 10 ≤ n → Room old at (decimal n) → Room old at (decimal (n / 10) ++ ((48 + n % 10) ∷ []))
-large_room {old} {at} n h r = subst (λ z. Room old at z) (decimal_large n h) r
+pub large_room : {w : Writer} (n : ℕ) → 10 ≤ n → Room w (decimal n) → Room w (decimal (n / 10) ++ ((48 + n % 10) ∷ []))
+large_room {w} n h r = subst (λ z. Room w z) (decimal_large n h) r
 
 module _ (xs : List ℕ) where
+  -- the cells with one more
+  cells_next : (k : ℕ) → cells xs 0 (suc k) ≡ cells xs 0 k ++ ((32 ∷ []) ++ decimal (get_or xs k 0))
+  unfolding cells
+  cells_next k = ap (λ z. cells xs 0 k ++ (32 ∷ decimal (get_or xs z 0))) (zero-add k)
+
   -- one more cell
-  pub cells_more : {old : List ℕ} {at : ℕ} {m : ℕ} {mid : List ℕ} {l : ℕ} {low : List ℕ} {e : ℕ} {now : List ℕ} (q k : ℕ)
-      → PutOver old at (cells xs q k) m mid → PutOver mid m (32 ∷ []) l low → PutOver low l (decimal (get_or xs (q + k) 0)) e now
-      → PutOver old at (cells xs q (k + 1)) e now
-  unfolding cells
-  cells_more q k p b d = put_as (put_then p (put_then b d)) (cells xs q (k + 1)) (sym (ap (λ z. cells xs q z) (add-one k)))
+  pub cells_more : {u v w x : Writer} (k : ℕ) → Puts u (cells xs 0 k) v → Puts v (32 ∷ []) w → Puts w (decimal (get_or xs k 0)) x → Puts u (cells xs 0 (k + 1)) x
+  cells_more k p b d = put_as (put_then p (put_then b d)) (cells xs 0 (k + 1)) (sym (cells_next k) ∙ sym (ap (λ z. cells xs 0 z) (add-one k)))
 
   -- room for it
-  pub cell_room : {old : List ℕ} {at : ℕ} {m : ℕ} {mid : List ℕ} (q i k : ℕ) → i < k
-      → PutOver old at (cells xs q i) m mid → Room old at (cells xs q k) → Room mid m ((32 ∷ []) ++ decimal (get_or xs (q + i) 0))
+  pub cell_room : {u v : Writer} (i k : ℕ) → i < k → Puts u (cells xs 0 i) v → Room u (cells xs 0 k) → Room v ((32 ∷ []) ++ decimal (get_or xs i 0))
   unfolding cells
-  cell_room q i k h p r =
-      step_room (cells xs q) (λ j. omega (arith, length-append (cells xs q j) (32 ∷ decimal (get_or xs (q + j) 0))))
-      i k ((32 ∷ []) ++ decimal (get_or xs (q + i) 0)) refl h p r
+  cell_room i k h p r =
+      step_room (cells xs 0) (λ j. omega (arith, length-append (cells xs 0 j) (32 ∷ decimal (get_or xs (0 + j) 0))))
+      i k ((32 ∷ []) ++ decimal (get_or xs i 0)) (cells_next i) h p r
 
-  -- the lines with one more
-  line_next : (t c q : ℕ) → q ≡ c * (2 * t + 1) → lines xs t (suc c) ≡ lines xs t c ++ line_at xs t (c + 1) q
-  unfolding lines
-  line_next t c q f =
-      ap (λ z. lines xs t c ++ line_at xs t z (c * (2 * t + 1))) (sym (add-one c)) ∙ ap (λ z. lines xs t c ++ line_at xs t (c + 1) z) (sym f)
+  -- n entries from place q on, which are those of the next column
+  module _ (t c q n : ℕ) (place : q ≡ c * (2 * t + 1)) (size : n ≡ 2 * t + 1) where
+    -- the lines with one more
+    line_next : lines xs t (suc c) ≡ lines xs t c ++ line_at (take n (drop q xs)) t (c + 1) 0
+    unfolding lines
+    line_next =
+        ap₂ (λ i j. lines xs t c ++ line_at xs t i j) (sym (add-one c)) (sym place)
+        ∙ ap (λ z. lines xs t c ++ z) (sym (line_part xs t (c + 1) q n size))
 
-  -- one more line
-  pub lines_more : {old : List ℕ} {at : ℕ} {m : ℕ} {mid : List ℕ} {e : ℕ} {now : List ℕ} (t c q : ℕ) → q ≡ c * (2 * t + 1)
-      → PutOver old at (lines xs t c) m mid → PutOver mid m (line_at xs t (c + 1) q) e now → PutOver old at (lines xs t (c + 1)) e now
-  lines_more t c q f p l = put_as (put_then p l) (lines xs t (c + 1)) (sym (line_next t c q f) ∙ sym (ap (λ z. lines xs t z) (add-one c)))
+    -- one more line
+    pub lines_more : {u v w : Writer} → Puts u (lines xs t c) v → Puts v (line_at (take n (drop q xs)) t (c + 1) 0) w → Puts u (lines xs t (c + 1)) w
+    lines_more p l = put_as (put_then p l) (lines xs t (c + 1)) (sym line_next ∙ sym (ap (λ z. lines xs t z) (add-one c)))
 
-  -- room for it
-  pub line_room : {old : List ℕ} {at : ℕ} {m : ℕ} {mid : List ℕ} (t c q w : ℕ) → q ≡ c * (2 * t + 1) → c < w
-      → PutOver old at (lines xs t c) m mid → Room old at (lines xs t w) → Room mid m (line_at xs t (c + 1) q)
-  unfolding lines
-  line_room t c q w f h p r =
-      step_room (lines xs t) (λ j. omega (arith, length-append (lines xs t j) (line_at xs t (suc j) (j * (2 * t + 1)))))
-      c w (line_at xs t (c + 1) q) (line_next t c q f) h p r
-
--- where the next column starts
-pub next_place : (c q each : ℕ) → q ≡ c * each → q + each ≡ (c + 1) * each
-next_place c q each f = ap (λ z. z + each) f ∙ omega (arith, add-mul c 1 each)
-
--- a column of w columns ends within them
-pub column_fits : (c w q each : ℕ) → q ≡ c * each → c < w → q + each ≤ w * each
-column_fits c w q each f h = let l : c + 1 ≤ w = omega arith in omega (arith, next_place c q each f, mul-le-mul_right each l)
+    -- room for it
+    pub line_room : {u v : Writer} (w : ℕ) → c < w → Puts u (lines xs t c) v → Room u (lines xs t w) → Room v (line_at (take n (drop q xs)) t (c + 1) 0)
+    unfolding lines
+    line_room w h p r =
+        step_room (lines xs t) (λ j. omega (arith, length-append (lines xs t j) (line_at xs t (suc j) (j * (2 * t + 1)))))
+        c w (line_at (take n (drop q xs)) t (c + 1) 0) line_next h p r

@@ -2,12 +2,10 @@
 use Prim.Native.Nat.{ℕ, zero, suc, ◌+◌, ◌*◌, ◌-◌, ◌/◌, ◌≤◌, ◌<◌}
 use native.Mathlib.Omega.{arith}
 use native.Mathlib.Nat.{mul-le-mul}
-use mathlib.Core.Path.{◌≡◌}
 use mathlib.Core.List.{List, [], ◌∷◌, ◌++◌}
 use lib.ListN.{length, get_or, length-append}
 use Rattle.listing.specs.Digits.{decimal}
 use Rattle.listing.specs.Text.{cells, column_at, line_at, lines, header, drawing_text, density_word, tracks_word, width_word}
-use Rattle.record.specs.Working.{Room}
 use Rattle.listing.proofs.Digits.{three_digits}
 
 -- the first line
@@ -68,14 +66,10 @@ module _ (xs : List ℕ) (few : (i : ℕ) → get_or xs i 0 < 1000) where
       )
 
   -- a listing of at most 127 columns and tracks with numbers below a thousand
-  drawn_size : (d t w : ℕ) → d < 1000 → t ≤ 127 → w ≤ 127 → length (drawing_text d t w xs) ≤ 130462
+  pub drawn_size : (d t w : ℕ) → d < 1000 → t ≤ 127 → w ≤ 127 → length (drawing_text d t w xs) ≤ 130462
   unfolding drawing_text
   drawn_size d t w x h l =
       omega (arith, length-append (header d t w) (lines xs t w), lines_size t w h l, header_size d t w x (omega arith) (omega arith))
-
-  -- there is room for it
-  pub drawn_room : (text : List ℕ) (d t w : ℕ) → length text ≡ 131072 → d < 1000 → t ≤ 127 → w ≤ 127 → Room text 0 (drawing_text d t w xs)
-  drawn_room text d t w e x h l = record { room = omega (arith, drawn_size d t w x h l) }
 
 -- at most 64 columns and as many nets open at a gap: at most 127 tracks, 127 columns with the added ones, and 32,385 entries
 pub figures_few : (n d t w : ℕ) → n ≤ 64 → d ≤ n → t ≤ 2 * d - 1 → w ≤ n + t / 2

@@ -1,26 +1,15 @@
 -- Document 01, "Record and listing": the listing of a record.
-use Rattle.std.specs.Prelude.{ℕ, zero, suc, List, length}
+use Rattle.std.specs.Prelude.{ℕ, List, length, Result}
 use Rattle.grid.specs.Channel.{density, tracks, rows_refused}
-use Rattle.grid.specs.Refusals.{first_refusal, if_accepted}
+use Rattle.grid.specs.declared.refusals.Refusal.{Refusal}
+use Rattle.grid.specs.Refusals.{first_refusal, if_accepted, figures_or, answer_of}
 use Rattle.record.specs.Record.{record_refused, top_row, bottom_row}
 use Rattle.router.specs.Answers.{width, layout}
-use Rattle.listing.specs.declared.Listed.{Listed}
-use Rattle.listing.specs.declared.Listed.TheVariants.{Text, Refused}
 use Rattle.listing.specs.Text.{drawing_text, refusal}
 
--- the number of an answer, "The number on acceptance is 0", and the bytes of the text, 0 on refusal
-abbrev pub number_of : Listed → ℕ
-number_of (Text n) = 0
-number_of (Refused k) = k
-
-abbrev pub length_of : Listed → ℕ
-length_of (Text n) = n
-length_of (Refused k) = 0
-
--- the answer with a number and a text of n bytes
-abbrev pub listed_by : (number n : ℕ) → Listed
-listed_by zero n = Text n
-listed_by (suc k) n = Refused (suc k)
+-- the bytes of the text of an answer, 0 on refusal
+abbrev pub length_of : Result ℕ Refusal → ℕ
+length_of r = figures_or 0 r
 
 -- the text of a channel: its figures and the columns of its drawing
 abbrev pub channel_text : (top bottom : List ℕ) → List ℕ
@@ -36,8 +25,8 @@ module _ (s : List ℕ) where
   text_of = channel_text (top_row s) (bottom_row s)
 
   -- the answer to a record
-  unfoldable pub listed : Listed
-  listed = listed_by refused (length text_of)
+  unfoldable pub listed : Result ℕ Refusal
+  listed = answer_of refused (length text_of)
 
   -- what `knee` writes: the text; "On refusal it writes one line, as `refused 7`"
   unfoldable pub output : List ℕ

@@ -2,59 +2,44 @@
 // count is no part of it, so that damaged records can be among them. A count that reaches past the input ends the program.
 #![tactic(auto)]
 
-ghost use Rattle.std.specs.Prelude.{◌≡◌, ◌+◌, ◌<◌, ◌≤◌, length};
+ghost use Rattle.std.specs.Prelude.{◌≡◌, length};
+ghost use Rattle.std.specs.Iterator.{at_most};
 
 use std::io;
 
-// Room for the input.
-fn input() -> [u8; 65536]
-    ensures { 65536 ≡ length result }
-{
-    [0u8; 65536]
+// The records of a stream, up to a count that reaches past its end.
+#[derive(Drop)]
+struct Records<'a> {
+    rest: &'a [u8],
 }
 
-fn room() -> [u8; listing::ROOM] {
-    [0u8; listing::ROOM]
-}
+impl<'a> Iterator for Records<'a> {
+    type Item = &'a [u8];
 
-// The count at a place.
-fn count_at(stream: &[u8], at: usize) -> usize
-    requires { at + 1 < length stream.now }
-    ensures { result ≤ 65535 }
-{
-    widened(stream[at]) + 256 * widened(stream[at + 1])
-}
+    ghost remaining = { λ s. at_most (length s.rest.now) };
 
-fn widened(b: u8) -> usize
-    ensures { result ≤ 255 }
-{
-    b as usize
+    fn next(&mut self) -> Option<&'a [u8]> {
+        let (count, rest) = self.rest.split_first_chunk()?;
+        let size = usize::from(u16::from_le_bytes(*count));
+        let (record, rest) = rest.split_at_checked(size)?;
+        self.rest = rest;
+        Some(record)
+    }
 }
 
 // The listing of one record, or the line of its refusal.
-fn show(rt: &impl Print, bytes: &[u8]) -> io::Result<()> {
-    let mut text = room();
-    let size = listing::put_output(bytes, &mut text);
+fn show(rt: &impl Print, record: &[u8]) -> io::Result<()> {
+    let mut text = [0; listing::ROOM];
+    let size = listing::put_output(record, &mut text);
     rt.write_all(&text[..size])
 }
 
-// The listing of each record.
-fn show_all(rt: &impl Print, stream: &[u8]) -> io::Result<()> {
-    let mut at = 0;
-    while 2 <= stream.len() - at {
-        let start = at + 2;
-        let size = count_at(stream, at);
-        if stream.len() - start < size {
-            return Ok(());
-        }
-        show(rt, &stream[start..start + size])?;
-        at = start + size;
+fn main(rt: HostRuntime) -> io::Result<()> {
+    let mut stream = [0; 65536];
+    let n = reading::read_full(&mut rt.stdin(), &mut stream)?;
+    let records = Records { rest: &stream[..n] };
+    for record in records {
+        show(&rt, record)?;
     }
     Ok(())
-}
-
-fn main(rt: HostRuntime) -> io::Result<()> {
-    let mut stream = input();
-    let n = reading::read_full(&mut rt.stdin(), &mut stream)?;
-    show_all(&rt, &stream[..n])
 }

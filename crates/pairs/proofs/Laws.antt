@@ -1,44 +1,18 @@
--- Stores in the table of mates; the lowest member of a set above a number; the net that ends last, member by member; a net apart from two others.
+-- The lowest member of a set above a number; the net that ends last, member by member; a net apart from two others.
 use Prim.Native.Nat.{ℕ, zero, suc, ◌+◌, ◌-◌, ◌%◌, ◌≤◌, ◌<◌}
 use mathlib.Core.Path.{◌≡◌, refl, sym, ap, ◌∙◌}
 use mathlib.Core.Bool.{Bool, true, false, ◌&&◌, ◌||◌}
 use mathlib.Core.Logic.{◌⊎◌, inl, inr, ⊎_elim, ◌≢◌}
-use mathlib.Core.List.{List, [], ◌∷◌}
+use mathlib.Core.List.{List}
 use native.Mathlib.Omega.{arith}
 use native.Mathlib.Decide.{ℕ_discrete, dec_lt}
 use lib.Dec.{eqb, ltb}
-use lib.ListN.{length, get_or, set}
+use lib.ListN.{get_or}
 use Rattle.grid.specs.Channel.{pick}
 use Rattle.grid.proofs.Tests.{eq-eqb, ne_eqb, and_none, Same, same, same_by}
 use Rattle.sets.specs.Member.{member, Put, LowestFrom}
-use Rattle.sweep.specs.declared.Double.{Double}
-use Rattle.sweep.specs.Drawing.{no_double}
-use Rattle.sweep.specs.Pairs.{unpair, pair_up, latest_to}
-use Rattle.pairs.specs.Working.{lone_by, LoneAt, MarksLone, LeastAbove, but_for, double_by, apart_from}
-
--- a store past the end changes nothing
-pub set_past : (l : List ℕ) (i x : ℕ) → length l ≤ i → set l i x ≡ l
-set_past [] i x h = refl
-set_past (y ∷ ys) zero x h = absurd (omega arith)
-set_past (y ∷ ys) (suc i) x h = ap (λ (l : List ℕ). y ∷ l) (set_past ys i x (omega arith))
-
--- MATES AND DOUBLE NETS, from what the code stores and reads
-pub unpair_by : (m m₁ m₂ : List ℕ) (v w : ℕ) → w ≡ get_or m v 0 → m₁ ≡ set m w 0 → m₂ ≡ set m₁ v 0 → m₂ ≡ unpair v m
-unfolding unpair
-unpair_by m m₁ m₂ v w e f g = cc
-
-pub pair_by : (m m₁ m₂ : List ℕ) (d s : ℕ) → m₁ ≡ set m s d → m₂ ≡ set m₁ d s → m₂ ≡ pair_up d s m
-unfolding pair_up
-pair_by m m₁ m₂ d s e f = cc
-
-module _ (last low high : List ℕ) (v : ℕ) where
-  pub double_none : v ≡ 0 → no_double ≡ double_by last low high v
-  unfolding double_by
-  double_none e = sym (ap (λ (b : Bool). pick b no_double (record { net = v; low = get_or low v 0; high = get_or high v 0; last = get_or last v 0 })) (eq-eqb v 0 e))
-
-  pub double_some : (a b e : ℕ) → v ≢ 0 → a ≡ get_or low v 0 → b ≡ get_or high v 0 → e ≡ get_or last v 0 → ◌≡◌ {A = Double} (record { net = v; low = a; high = b; last = e }) (double_by last low high v)
-  unfolding double_by
-  double_some a b e n x y z = rw (ne_eqb v 0 n, x, y, z)
+use Rattle.sweep.specs.Pairs.{latest_to}
+use Rattle.pairs.specs.Working.{lone_by, LoneAt, MarksLone, LeastAbove, but_for, apart_from}
 
 -- THE LOWEST MEMBER above a, as the set has it
 pub least_above : (s : List ℕ) (a k r : ℕ) → a < 512 → LowestFrom s (a + 1) k → r ≡ k % 512 → LeastAbove (member s) a r
@@ -86,11 +60,6 @@ least_next s d r l m = record {
 
 -- THE NET THAT ENDS LAST
 
--- how far the numbers are looked at when v is the next to look at, 0: to the end
-abbrev pub reach : ℕ → ℕ
-reach zero = 511
-reach (suc v) = v
-
 module _ (e : ℕ → ℕ) (p : ℕ → Bool) where
   -- one number more
   latest_one : (k : ℕ) → latest_to e p (suc k) ≡ pick (p (suc k) && (eqb (latest_to e p k) 0 || ltb (e (latest_to e p k)) (e (suc k)))) (suc k) (latest_to e p k)
@@ -106,34 +75,28 @@ module _ (e : ℕ → ℕ) (p : ℕ → Bool) where
       ∙ ap (λ (q : Bool). pick (q && (eqb (latest_to e p (a + b)) 0 || ltb (e (latest_to e p (a + b))) (e (suc (a + b))))) (suc (a + b)) (latest_to e p (a + b))) (h (suc (a + b)) (omega arith) (omega arith))
       ∙ skips a b (λ j x y. h j x (omega arith))
 
-  -- up to the next number that passes it
-  skip_to : (a w : ℕ) → a < 512 → LeastAbove p a w → latest_to e p (reach w) ≡ latest_to e p a
-  skip_to a zero q l =
-      let z : a + (511 - a) ≡ 511 = omega arith in
-      ap (latest_to e p) (sym z) ∙ skips a (511 - a) (λ j x y. l.below j x (omega arith) (inl refl))
-  skip_to a (suc w) q l =
-      let (x, y) = l.found (λ i. omega arith) in
-      let z : a + (w - a) ≡ w = omega arith in
-      ap (latest_to e p) (sym z) ∙ skips a (w - a) (λ j x y. l.below j x (omega (arith, l.small)) (inr (omega arith)))
-
+module _ (e : ℕ → ℕ) (s : List ℕ) where
   -- none is looked at
-  pub latest_none : (v : ℕ) → LeastAbove p 0 v → 0 ≡ latest_to e p (reach v)
+  pub latest_none : 0 ≡ latest_to e (member s) 0
   unfolding latest_to
-  latest_none v l = sym (skip_to 0 v (omega arith) l)
+  latest_none = refl
 
-  -- one more is
-  pub latest_more : (v w best r : ℕ) → v < 512 → v ≢ 0 → p v ≡ true → best ≡ latest_to e p (reach v) → r ≡ pick (eqb best 0 || ltb (e best) (e v)) v best → LeastAbove p v w
-      → r ≡ latest_to e p (reach w)
-  latest_more zero w best r h n q b f l = absurd (n refl)
-  latest_more (suc v) w best r h n q b f l =
-      f ∙ ap (λ (x : ℕ). pick (eqb x 0 || ltb (e x) (e (suc v))) (suc v) x) b
-      ∙ ap (λ (x : Bool). pick (x && (eqb (latest_to e p v) 0 || ltb (e (latest_to e p v)) (e (suc v)))) (suc v) (latest_to e p v)) (sym q) ∙ sym (latest_one v) ∙ sym (skip_to (suc v) w h l)
+  -- after member k and what came before it, the next one, m
+  pub latest_more : (k m best r : ℕ) → LowestFrom s (k + 1) m → m < 512 → best ≡ latest_to e (member s) k → r ≡ pick (eqb best 0 || ltb (e best) (e m)) m best
+      → r ≡ latest_to e (member s) m
+  latest_more k zero best r l h b f = absurd (omega (arith, l.low))
+  latest_more k (suc v) best r l h b f =
+      let z : k + (v - k) ≡ v = omega (arith, l.low) in
+      let q : latest_to e (member s) v ≡ best = ap (latest_to e (member s)) (sym z) ∙ skips e (member s) k (v - k) (λ j x y. l.below j (omega arith) (omega arith)) ∙ sym b in
+      f ∙ ap (λ (x : ℕ). pick (eqb x 0 || ltb (e x) (e (suc v))) (suc v) x) (sym q)
+      ∙ ap (λ (x : Bool). pick (x && (eqb (latest_to e (member s) v) 0 || ltb (e (latest_to e (member s) v)) (e (suc v)))) (suc v) (latest_to e (member s) v)) (sym (l.found h))
+      ∙ sym (latest_one e (member s) v)
 
--- the next number lies further on
-pub reach_more : (p : ℕ → Bool) (v w : ℕ) → v < 512 → v ≢ 0 → LeastAbove p v w → 511 - reach w < 511 - reach v
-reach_more p zero w h n l = absurd (n refl)
-reach_more p (suc v) zero h n l = omega arith
-reach_more p (suc v) (suc w) h n l = omega (arith, l.small, (l.found (λ i. omega arith)).0)
+  -- there is none after k
+  pub latest_end : (k best : ℕ) → k < 512 → LowestFrom s (k + 1) 512 → best ≡ latest_to e (member s) k → best ≡ latest_to e (member s) 511
+  latest_end k best h l b =
+      let z : k + (511 - k) ≡ 511 = omega arith in
+      b ∙ sym (skips e (member s) k (511 - k) (λ j x y. l.below j (omega arith) (omega arith))) ∙ ap (latest_to e (member s)) z
 
 -- MARKS
 
@@ -172,15 +135,6 @@ apart_or u v w = go (eqb u v) (eqb u w) (same_by u v) (same_by u w)
     go true q (same e) f = inr (inl e)
     go false true e (same f) = inr (inr f)
     go false false e f = inl refl
-
--- by the test
-pub apart_none : (u v w : ℕ) → (eqb u v || eqb u w) ≡ true → 0 ≡ apart_from v w u
-unfolding apart_from
-apart_none u v w e = sym (rw e refl)
-
-pub apart_self : (u v w : ℕ) → (eqb u v || eqb u w) ≡ false → u ≡ apart_from v w u
-unfolding apart_from
-apart_self u v w e = sym (rw e refl)
 
 -- it is at most u
 pub apart_most : (u v w : ℕ) → apart_from v w u ≤ u

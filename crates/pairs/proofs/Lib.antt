@@ -1,3 +1,3 @@
--- The laws behind the code: `Laws` of stores, lowest members, the net that ends last and a net apart from two others; `Renewal` of the pairs after a column.
+-- The laws behind the code: `Laws` of lowest members, the net that ends last and a net apart from two others; `Renewal` of the pairs after a column.
 pub mod Laws
 pub mod Renewal

@@ -9,27 +9,28 @@ ghost use Rattle.sweep.specs.Pairs.{mate, latest_to};
 ghost use Rattle.sweep.specs.Pairs.{unpair as unpaired, pair_up};
 ghost use Rattle.pairs.specs.Working.{MarksLone, MarksLoneThree, ending_by, renewed, Numbers, MarksAllLone, LeastAbove, but_for, double_by, apart_from};
 
+use sets::MembersAbove;
 use sweep::Double;
 
 // What a table holds at v, 0 past its end.
 fn entry(table: &[u16], v: u16) -> u16
     ensures { result ≡ get_or table.now v 0 }
 {
-    let i = v as usize;
-    if i < table.len() { table[i] } else { 0 }
+    table.get(usize::from(v)).copied().unwrap_or(0)
 }
 
-// Stores x at v, nothing past the end.
+// Stores x at v, nothing past the end. By index: after a write through `get_mut` the elements are not known.
 fn store(table: &mut [u16], v: u16, x: u16)
     ensures { table.new ≡ set table.old v x }
 {
-    let i = v as usize;
+    let i = usize::from(v);
     if i < table.len() {
         table[i] = x;
     }
 }
 
 // The pair of net v ends (0: none). The answer is its former mate.
+#[tactic(auto, unfolding(sweep::specs::Pairs::unpair))]
 fn unpair(mates: &mut [u16], v: u16) -> u16
     ensures mates { mates.new ≡ unpaired v mates.old }
     ensures former { result ≡ mate v mates.old }
@@ -41,6 +42,7 @@ fn unpair(mates: &mut [u16], v: u16) -> u16
 }
 
 // The nets d and s become a pair (0 and 0: none).
+#[tactic(auto, unfolding(sweep::specs::Pairs::pair_up))]
 fn pair_up(mates: &mut [u16], d: u16, s: u16)
     ensures { mates.new ≡ pair_up d s mates.old }
 {
@@ -49,6 +51,7 @@ fn pair_up(mates: &mut [u16], d: u16, s: u16)
 }
 
 // Net v if column c is its last, else 0.
+#[tactic(auto, unfolding(crate::specs::Working::ending_by))]
 fn ending(last: &[u16], c: u16, v: u16) -> u16
     ensures { result ≡ ending_by last.now c v }
 {
@@ -64,10 +67,11 @@ fn mark(many: &[u16], mates: &[u16], lone: &mut [u64; 8], v: u16)
         return;
     }
     let b = (entry(many, v) == 2) & (entry(mates, v) == 0);
-    sets::put(lone, v as usize, b);
+    sets::put(lone, usize::from(v), b);
 }
 
 // Net u, or 0 where it is v or w: it need not be marked beside them.
+#[tactic(auto, unfolding(crate::specs::Working::apart_from))]
 pub fn apart(u: u16, v: u16, w: u16) -> u16
     ensures { result ≡ apart_from v w u }
 {
@@ -114,7 +118,7 @@ pub fn renew(
 fn above(s: &[u64; 8], v: u16) -> u16
     ensures { LeastAbove (member s.now) (v % 512) result }
 {
-    (sets::above(s, v as usize) % 512) as u16
+    (sets::above(s, usize::from(v)) % 512) as u16
 }
 
 // Of the nets u and v the one that ends later, u where they end together; v where u is 0.
@@ -133,10 +137,8 @@ pub fn latest(last: &[u16], lone: &[u64; 8]) -> u16
     ensures { result ≡ latest_to (λ v. get_or last.now v 0) (member lone.now) 511 }
 {
     let mut best = 0;
-    let mut v = above(lone, 0);
-    while v != 0 {
-        best = later_of(last, best, v);
-        v = above(lone, v);
+    for v in (MembersAbove { set: lone, last: 0 }) {
+        best = later_of(last, best, v as u16);
     }
     best
 }
@@ -150,6 +152,7 @@ pub fn other(lone: &[u64; 8], d: u16) -> u16
 }
 
 // Net v as a double net (0: none).
+#[tactic(auto, unfolding(crate::specs::Working::double_by))]
 pub fn double_at(last: &[u16], low: &[u16], high: &[u16], v: u16) -> Double
     ensures { result ≡ double_by last.now low.now high.now v }
 {

@@ -133,16 +133,14 @@ row_kept zero row new h = absurd (omega arith)
 row_kept (suc k) row new h = refl
 
 -- beside the first pin of a net is room for the second
-pub second_room : {own : ℕ} {row : List ℕ} {drawn column2 side2 : ℕ} → FreeOn own row drawn column2 side2 → (net column1 side1 : ℕ) (mid : List ℕ)
-    → mid ≡ with_pin own row net column1 side1 → side2 ≡ own → (1 ≤ column2) × (column2 ≤ length mid)
-second_room {own} {row} free net column1 side1 mid e s =
+pub second_room : {own : ℕ} {row : List ℕ} {drawn column2 side2 : ℕ} → FreeOn own row drawn column2 side2 → (net column1 side1 : ℕ) (l : List ℕ)
+    → l ≡ with_pin own row net column1 side1 → side2 ≡ own → (1 ≤ column2) × (column2 ≤ length l)
+second_room {own} {row} free net column1 side1 l e s =
     let (a, b) = pin_room free s in
-    let l = ap length e ∙ pin_length own row net column1 side1 in
+    let n = ap length e ∙ pin_length own row net column1 side1 in
     (a, omega arith)
 
 -- and with both the row is as the net places it
-pub row_placed : {number : ℕ} (own : ℕ) (row mid last : List ℕ) (net column1 side1 column2 side2 : ℕ) → number ≡ 0 → mid ≡ with_pin own row net column1 side1
-    → last ≡ with_pin own mid net column2 side2 → last ≡ if_accepted number (with_pins own row net column1 side1 column2 side2) row
-row_placed own row mid last net column1 side1 column2 side2 z e f =
-    f ∙ ap (λ (l : List ℕ). with_pin own l net column2 side2) e
-    ∙ ap (λ (k : ℕ). if_accepted k (with_pins own row net column1 side1 column2 side2) row) (sym z)
+pub row_placed : (own : ℕ) (row half last : List ℕ) (net column1 side1 column2 side2 : ℕ) → half ≡ with_pin own row net column1 side1
+    → last ≡ with_pin own half net column2 side2 → last ≡ with_pins own row net column1 side1 column2 side2
+row_placed own row half last net column1 side1 column2 side2 e f = f ∙ ap (λ (l : List ℕ). with_pin own l net column2 side2) e

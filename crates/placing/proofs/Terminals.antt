@@ -1,32 +1,15 @@
--- The refusal of a net by the tests of the code, and what it says of a net and its terminals that it is not refused. Assumes nothing.
+-- What it says of a net and its terminals that it is not refused. Assumes nothing.
 use Prim.Native.Nat.{ℕ, ◌-◌, ◌≤◌, ◌<◌}
-use mathlib.Core.Path.{◌≡◌, refl, sym, ap₂, subst, ◌∙◌}
+use mathlib.Core.Path.{◌≡◌, ap₂, subst}
 use mathlib.Core.Logic.{◌≢◌}
 use mathlib.Core.Bool.{Bool, true, not, ◌&&◌, ◌||◌}
 use mathlib.Core.List.{List}
 use native.Mathlib.Omega.{arith}
 use lib.Dec.{eqb, ltb, leb}
 use lib.ListN.{length, get_or}
-use Rattle.grid.specs.Channel.{pick, times, pins}
+use Rattle.grid.specs.Channel.{pick, pins}
 use Rattle.grid.proofs.Tests.{ltb-true, ltb-false, leb-true, eqb-true, eqb-false, not-false, eq-eqb, ne_eqb, not_both, and_true, or_false, pick_past}
 use Rattle.placing.specs.Placing.{is_free_in, is_free, place_refused}
-use Rattle.placing.proofs.Search.{found_either}
-
--- THE REFUSAL, over the code's variables
-
-module _ (top bottom : List ℕ) (drawn net column1 side1 column2 side2 : ℕ) where
-  pub refused_by : (above below first second : Bool) → above ≡ ltb 0 (times net top) → below ≡ ltb 0 (times net bottom)
-      → first ≡ is_free top bottom drawn column1 side1 → second ≡ is_free top bottom drawn column2 side2
-      → (wrong used taken : Bool) → (eqb net 0 || ltb 256 net) ≡ wrong → (above || below) ≡ used
-      → (not (first && second) || (eqb column1 column2 && eqb side1 side2)) ≡ taken
-      → pick wrong 6 (pick used 21 (pick taken 22 0)) ≡ place_refused top bottom drawn net column1 side1 column2 side2
-  unfolding place_refused
-  refused_by above below first second a b f s wrong used taken w u t =
-      rw (
-        w,
-        sym (ap₂ ◌||◌ a b ∙ found_either top bottom net) ∙ u,
-        sym (ap₂ (λ (p q : Bool). not (p && q) || (eqb column1 column2 && eqb side1 side2)) f s) ∙ t,
-      ) refl
 
 -- A NET THAT IS NOT REFUSED
 

@@ -14,6 +14,7 @@ pub fn read_full<R: Read>(reader: &mut R, room: &mut [u8]) -> io::Result<usize>
     ensures bytes { IfOk result (λ n. Consumes (R.remaining reader.old) (R.remaining reader.new) (take n room.new)) }
     ensures end { IfOk result (λ n. n < length room.new → IsAtEnd (R.remaining reader.new)) }
 {
+    // No `for`: a turn goes on by as many bytes as came.
     let mut done = 0;
     while done < room.len() {
         let n = reader.read(&mut room[done..])?;

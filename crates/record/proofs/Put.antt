@@ -6,13 +6,14 @@ use native.Mathlib.Nat.{add-zero, zero-add, add_assoc}
 use mathlib.Core.Bool.{Bool, true, false}
 use mathlib.Core.Path.{◌≡◌, refl, ap, sym, subst, ◌∙◌}
 use mathlib.Core.List.{List, [], ◌∷◌, ◌++◌, append_assoc}
-use lib.ListN.{length, take, drop, set, length-append, length-set, take-append-drop}
+use lib.ListN.{length, take, drop, set, length-append, take-append-drop}
 use lib.Seq.{set_split, take_at, drop_at, drop-drop, length-take-le}
 use lib.Dec.{ltb}
 use borrow.Author.Tests.{ltb-true, ltb-false}
 use Rattle.record.specs.Record.{laid}
 use Rattle.record.specs.Counts.{Counts}
-use Rattle.record.specs.Working.{Room, overwritten, PutOver}
+use Rattle.record.specs.declared.writing.Writer.{Writer}
+use Rattle.record.specs.Working.{Room, overwritten, Puts}
 
 -- nothing put over others
 over_none : (old : List ℕ) (at : ℕ) → overwritten old at [] ≡ old
@@ -20,7 +21,7 @@ unfolding overwritten
 over_none old at = ap (λ z. take at old ++ drop z old) (add-zero at) ∙ take-append-drop at old
 
 -- one byte put over others
-over_one : (old : List ℕ) (at x : ℕ) → at < length old → set old at x ≡ overwritten old at (x ∷ [])
+pub over_one : (old : List ℕ) (at x : ℕ) → at < length old → set old at x ≡ overwritten old at (x ∷ [])
 unfolding overwritten
 over_one old at x h = set_split old at x h ∙ sym (ap (λ z. take at old ++ (x ∷ drop z old)) (add-one at))
 
@@ -50,59 +51,54 @@ over-over old at a b h =
         ∙ ap (λ z. drop z old) (add_assoc at (length a) (length b) ∙ ap (λ z. at + z) (sym (length-append a b)))
 
 -- nothing put
-pub put_none : (old : List ℕ) (at : ℕ) → at ≤ length old → PutOver old at [] at old
-put_none old at h = record { holds = sym (over_none old at); ends = sym (add-zero at); fits = h; keeps = refl }
-
--- one byte put
-pub put_one : (old : List ℕ) (at x : ℕ) → at < length old → PutOver old at (x ∷ []) (at + 1) (set old at x)
-put_one old at x h = record { holds = over_one old at x h; ends = refl; fits = omega arith; keeps = length-set old at x }
+pub put_none : (w : Writer) → w.written ≤ length w.bytes.now → Puts w [] w
+put_none w h = record { holds = sym (over_none w.bytes.now w.written); ends = sym (add-zero w.written); fits = h; keeps = refl; same = refl }
 
 -- b put after a
-pub put_then : {old : List ℕ} {at : ℕ} {a : List ℕ} {m : ℕ} {mid : List ℕ} {b : List ℕ} {e : ℕ} {now : List ℕ}
-    → PutOver old at a m mid → PutOver mid m b e now → PutOver old at (a ++ b) e now
-put_then {old} {at} {a} {m} {mid} {b} {e} {now} p q =
+pub put_then : {u v w : Writer} {a b : List ℕ} → Puts u a v → Puts v b w → Puts u (a ++ b) w
+put_then {u} {v} {w} {a} {b} p q =
     record {
       holds =
-          q.holds ∙ ap (λ z. overwritten z m b) p.holds ∙ ap (λ z. overwritten (overwritten old at a) z b) p.ends
-          ∙ over-over old at a b (omega (arith, p.ends, p.fits));
+          q.holds ∙ ap (λ z. overwritten z v.written b) p.holds ∙ ap (λ z. overwritten (overwritten u.bytes.now u.written a) z b) p.ends
+          ∙ over-over u.bytes.now u.written a b (omega (arith, p.ends, p.fits));
       ends = q.ends ∙ omega (arith, p.ends, length-append a b);
       fits = omega (arith, q.fits, p.keeps);
       keeps = q.keeps ∙ p.keeps;
+      same = q.same ∙ p.same;
     }
 
 -- the same put, with what was put written otherwise
-pub put_as : {old : List ℕ} {at : ℕ} {a : List ℕ} {e : ℕ} {now : List ℕ} → PutOver old at a e now → (b : List ℕ) → a ≡ b → PutOver old at b e now
-put_as {old} {at} {a} {e} {now} p b h = subst (λ z. PutOver old at z e now) h p
+pub put_as : {u v : Writer} {a : List ℕ} → Puts u a v → (b : List ℕ) → a ≡ b → Puts u b v
+put_as {u} {v} p b h = subst (λ z. Puts u z v) h p
 
--- bytes put from the start on: they, then the old ones; and how many they are
-pub put_laid : {old new : List ℕ} {e : ℕ} {now : List ℕ} → PutOver old 0 new e now → (e ≡ length new) × (now ≡ laid new old)
+-- put from the start on: the bytes put, then the old ones; and how many they are
+pub put_laid : {u v : Writer} {new : List ℕ} → u.written ≡ 0 → Puts u new v → (v.written ≡ length new) × (v.bytes.now ≡ laid new u.bytes.now)
 unfolding overwritten
-put_laid {old} {new} {e} {now} p = (p.ends ∙ zero-add (length new), p.holds ∙ ap (λ z. new ++ drop z old) (zero-add (length new)))
+put_laid {u} {v} {new} e p =
+    (omega (arith, p.ends), p.holds ∙ ap (λ i. take i u.bytes.now ++ (new ++ drop (i + length new) u.bytes.now)) e ∙ ap (λ i. new ++ drop i u.bytes.now) (zero-add (length new)))
 
--- the bytes put can be taken as a part
-pub counted : {old : List ℕ} {at : ℕ} {new : List ℕ} {e : ℕ} {now : List ℕ} → PutOver old at new e now → Counts e now
-counted {old} {at} {new} {e} {now} p = (omega (arith, p.fits, p.keeps), sym (length-take-le e now (omega (arith, p.fits, p.keeps))))
+-- as many bytes as were laid over the first ones can be taken as a part
+pub counts_laid : (e : ℕ) (new old now : List ℕ) → length new ≤ length old → e ≡ length new → now ≡ laid new old → Counts e now
+counts_laid e new old now h f g = (fits, sym (length-take-le e now fits))
+  where
+    fits : e ≤ length now
+    fits = omega (arith, f, ap length g, length-append new (drop (length new) old))
 
--- the same put, where the count that was reached is the count that was asked for
-pub put_all : {old : List ℕ} {at : ℕ} {m : ℕ} {now : List ℕ} (f : ℕ → List ℕ) (k n : ℕ) → k ≤ n → n ≤ k
-    → PutOver old at (f k) m now → PutOver old at (f n) m now
-put_all f k n h l p = put_as p (f n) (ap f (omega arith))
+-- room in a writer that has written nothing
+pub room_new : {w : Writer} {new old : List ℕ} → w.written ≡ 0 → w.bytes.now ≡ old → length new ≤ length old → Room w new
+room_new e f h = record { room = omega (arith, e, ap length f) }
+
+-- room for the same, written otherwise
+pub room_as : {w : Writer} {a b : List ℕ} → Room w a → a ≡ b → Room w b
+room_as {w} r e = subst (λ z. Room w z) e r
 
 -- room for two: room for the first
-pub room_before : {old : List ℕ} {at : ℕ} {a : List ℕ} (b : List ℕ) → Room old at (a ++ b) → Room old at a
-room_before {old} {at} {a} b r = record { room = omega (arith, r.room, length-append a b) }
+pub room_before : {w : Writer} {a : List ℕ} (b : List ℕ) → Room w (a ++ b) → Room w a
+room_before {w} {a} b r = record { room = omega (arith, r.room, length-append a b) }
 
 -- and, once the first is put, room for the second
-pub room_behind : {old : List ℕ} {at : ℕ} {a b : List ℕ} {m : ℕ} {mid : List ℕ} → PutOver old at a m mid → Room old at (a ++ b) → Room mid m b
-room_behind {old} {at} {a} {b} {m} {mid} p r = record { room = omega (arith, r.room, length-append a b, p.ends, p.keeps) }
-
--- room for one byte, as a number
-pub room_one : {old : List ℕ} {at x : ℕ} → Room old at (x ∷ []) → at < length old
-room_one r = omega (arith, r.room)
-
--- room for two lists, as a number
-pub room_two : {old : List ℕ} {at : ℕ} (a b : List ℕ) → Room old at (a ++ b) → at + (length a + length b) ≤ length old
-room_two a b r = omega (arith, r.room, length-append a b)
+pub room_behind : {u v : Writer} {a b : List ℕ} → Puts u a v → Room u (a ++ b) → Room v b
+room_behind {u} {v} {a} {b} p r = record { room = omega (arith, r.room, length-append a b, p.ends, p.keeps) }
 
 -- a list that grows with each step is longest at the last
 pub grows : (f : ℕ → List ℕ) → ((k : ℕ) → length (f k) ≤ length (f (suc k))) → (i k : ℕ) → i ≤ k → length (f i) ≤ length (f k)
@@ -120,7 +116,7 @@ grows f step i (suc k) h = go (λ l. grows f step i k l) (ltb i (suc k)) refl
         last l = omega arith
 
 -- room for the next step of a list that grows to n steps
-pub step_room : {old : List ℕ} {at : ℕ} {m : ℕ} {mid : List ℕ} (f : ℕ → List ℕ)
+pub step_room : {u v : Writer} (f : ℕ → List ℕ)
     → ((k : ℕ) → length (f k) ≤ length (f (suc k))) → (i n : ℕ) (b : List ℕ)
-    → f (suc i) ≡ f i ++ b → i < n → PutOver old at (f i) m mid → Room old at (f n) → Room mid m b
+    → f (suc i) ≡ f i ++ b → i < n → Puts u (f i) v → Room u (f n) → Room v b
 step_room f step i n b e h p r = room_behind p (record { room = omega (arith, r.room, grows f step (suc i) n (omega arith), ap length e) })

@@ -1,5 +1,5 @@
 -- Refusals 1 to 3: the number at each way out of the check, and what holds where nothing is refused. Assumes nothing.
-use Prim.Native.Nat.{ℕ, zero, suc, ◌+◌, ◌*◌, ◌-◌, ◌≤◌, ◌<◌}
+use Prim.Native.Nat.{ℕ, ◌+◌, ◌*◌, ◌-◌, ◌≤◌, ◌<◌}
 use native.Mathlib.Omega.{arith}
 use mathlib.Core.Bool.{Bool, true, false}
 use mathlib.Core.Path.{◌≡◌, refl, ap, sym, ◌∙◌}
@@ -7,12 +7,15 @@ use mathlib.Core.List.{List}
 use lib.Dec.{ltb}
 use lib.ListN.{length}
 use borrow.Author.Tests.{lt-ltb, le-ltb, eq-eqb, ne_eqb, ltb-false, eqb-true, not-false}
-use Rattle.record.specs.declared.Reading.{Reading}
-use Rattle.record.specs.declared.Reading.TheVariants.{Channel, Refused}
+use Rattle.std.specs.Prelude.{Result, Ok, Err}
+use Rattle.std.proofs.Common.{rules}
 use Rattle.grid.specs.Channel.{pick}
-use Rattle.grid.specs.Refusals.{if_accepted}
+use Rattle.grid.specs.declared.refusals.Refusal.{Refusal}
+use Rattle.grid.specs.Refusals.{if_accepted, number, number_of}
+use Rattle.grid.proofs.Numbers.{pick_within, number_answer, figures_answer, accepted_is}
+use Rattle.grid.proofs.Numbers.{refused_is as refused_by_number}
 use Rattle.grid.proofs.Tests.{or_false}
-use Rattle.record.specs.Record.{word, wrong_length, wrong_kind, wrong_body, record_refused, number, columns, answer, record_read}
+use Rattle.record.specs.Record.{word, wrong_length, wrong_kind, wrong_body, record_refused, columns, record_read}
 
 module _ (s : List ℕ) where
   -- under 4 bytes
@@ -91,10 +94,10 @@ pub record Whole (s : List ℕ) : Type 0 where
   pub exact : length s ≡ 6 + 4 * word s 4
 
 -- a record that is not refused has n and two rows of n
-pub whole_record : (s : List ℕ) (k : ℕ) → k ≡ record_refused s → k ≡ 0 → Whole s
+pub whole_record : (s : List ℕ) → 0 ≡ record_refused s → Whole s
 unfolding record_refused wrong_length wrong_body
-whole_record s k e₀ h =
-    let p = all_false (wrong_length s) (wrong_kind s) (wrong_body s) (sym e₀ ∙ h) in
+whole_record s e₀ =
+    let p = all_false (wrong_length s) (wrong_kind s) (wrong_body s) (sym e₀) in
     let l = or_false (ltb (length s) 4) _ p.0 in
     let m = or_false (ltb 1030 (length s)) _ l.1 in
     let b = or_false (ltb (length s - 4) 2) _ p.1 in
@@ -104,31 +107,29 @@ whole_record s k e₀ h =
     record { long = omega arith; short = ltb-false 1030 (length s) m.0; exact = omega arith }
 
 module _ (s : List ℕ) where
-  -- the answer has the table's number
-  pub numbered : number (record_read s) ≡ record_refused s
+  -- the number is one of the table
+  pub record_within : record_refused s ≤ 24
+  unfolding record_refused
+  record_within = search (rules, pick_within) depth 12
+
+  -- and the answer has it
+  pub numbered : number_of (record_read s) ≡ record_refused s
   unfolding record_read
-  numbered = go (record_refused s)
-    where
-      go : (k : ℕ) → number (answer k (word s 4)) ≡ k
-      go zero = refl
-      go (suc k) = refl
+  numbered = number_answer _ _ record_within
 
   -- and the table's columns: as many as the record says, none on refusal
-  pub columns_by : (r : Reading) → r ≡ record_read s → columns r ≡ if_accepted (number r) (word s 4) 0
+  pub columns_by : (r : Result ℕ Refusal) → r ≡ record_read s → columns r ≡ if_accepted (number_of r) (word s 4) 0
   unfolding record_read
-  columns_by r e = ap columns e ∙ go (record_refused s) ∙ ap (λ (z : Reading). if_accepted (number z) (word s 4) 0) (sym e)
-    where
-      go : (k : ℕ) → columns (answer k (word s 4)) ≡ if_accepted (number (answer k (word s 4))) (word s 4) 0
-      go zero = refl
-      go (suc k) = refl
+  columns_by r e =
+      ap columns e ∙ figures_answer 0 (record_refused s) (word s 4)
+      ∙ ap (λ (k : ℕ). if_accepted k (word s 4) 0) (sym numbered ∙ sym (ap number_of e))
 
   -- a refusal, from its number
-  pub refused_is : (k : ℕ) → k ≡ record_refused s → (k ≡ 0 → ⊥) → Refused k ≡ record_read s
+  pub refused_is : (r : Refusal) → number r ≡ record_refused s → Err r ≡ record_read s
   unfolding record_read
-  refused_is zero e h = absurd (h refl)
-  refused_is (suc k) e h = ap (λ z. answer z (word s 4)) e
+  refused_is r e = refused_by_number (record_refused s) (word s 4) r e
 
   -- a channel, where the number is 0
-  pub channel_is : (k n : ℕ) → k ≡ record_refused s → k ≡ 0 → n ≡ word s 4 → Channel n ≡ record_read s
+  pub channel_is : (n : ℕ) → 0 ≡ record_refused s → n ≡ word s 4 → Ok n ≡ record_read s
   unfolding record_read
-  channel_is k n e h f = ap Channel f ∙ ap (λ z. answer z (word s 4)) (sym h ∙ e)
+  channel_is n e f = accepted_is (record_refused s) (word s 4) n (sym e) f

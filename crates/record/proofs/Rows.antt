@@ -5,12 +5,14 @@ use native.Mathlib.Numerals.{add-one}
 use mathlib.Core.Path.{◌≡◌, refl, ap, sym, ◌∙◌}
 use mathlib.Core.List.{List, [], ◌∷◌, ◌++◌, append_assoc}
 use lib.ListN.{length, get_or, take, drop, set, length-append}
+use Rattle.std.proofs.lemmas.List.{drop_all, append-nil}
 use lib.Seq.{drop-cons, set_at, take_at, length-take-le}
-use Rattle.record.specs.declared.Reading.{Reading}
-use Rattle.record.specs.declared.Reading.TheVariants.{Channel, Refused}
-use Rattle.grid.specs.Refusals.{if_accepted}
+use Rattle.std.specs.Prelude.{Result, Ok, Err}
+use Rattle.grid.specs.declared.refusals.Refusal.{Refusal}
+use Rattle.grid.specs.Refusals.{if_accepted, number, number_of}
+use Rattle.grid.proofs.Numbers.{number_nonzero}
 use Rattle.grid.proofs.Answers.{accepted_old}
-use Rattle.record.specs.Record.{word, record_refused, number, columns, record_read, row, top_row, bottom_row, laid}
+use Rattle.record.specs.Record.{word, record_refused, columns as columns_of, record_read, row, top_row, bottom_row, laid}
 use Rattle.record.specs.Counts.{Counts}
 use Rattle.record.proofs.Refusals.{whole_record, numbered, columns_by, refused_is, channel_is}
 
@@ -38,56 +40,74 @@ laid_more s at k old now v e f h =
     ∙ sym (ap (λ z. laid (row s at z) old) (add-one k))
 
 -- all of them
-pub laid_all : (s : List ℕ) (at k n : ℕ) (old now : List ℕ) → now ≡ laid (row s at k) old → k ≤ n → n ≤ k → now ≡ laid (row s at n) old
-laid_all s at k n old now e h l = e ∙ ap (λ z. laid (row s at z) old) (omega arith)
+pub laid_all : (s : List ℕ) (at k n : ℕ) (old now : List ℕ) → now ≡ laid (row s at k) old → (k ≡ n) × (n ≡ length old) → now ≡ row s at n
+laid_all s at k n old now e h =
+    e ∙ ap (λ z. laid (row s at z) old) h.0
+    ∙ ap (λ z. row s at n ++ z) (drop_all (length (row s at n)) old (omega (arith, row-length s at n)))
+    ∙ append-nil (row s at n)
+
+-- a row read into a part of an array
+pub row_laid : (s : List ℕ) (at n : ℕ) (old out : List ℕ) → out ≡ row s at (length (take n old)) → n ≤ length old → out ++ drop n old ≡ laid (row s at n) old
+row_laid s at n old out e h =
+    ap (λ z. z ++ drop n old) (e ∙ ap (row s at) (length-take-le n old h)) ∙ ap (λ z. row s at n ++ drop z old) (sym (row-length s at n))
 
 -- both rows have as many numbers as the channel has columns
-rows_length : (s : List ℕ) → (length (top_row s) ≡ columns (record_read s)) × (length (bottom_row s) ≡ columns (record_read s))
+rows_length : (s : List ℕ) → (length (top_row s) ≡ columns_of (record_read s)) × (length (bottom_row s) ≡ columns_of (record_read s))
 unfolding top_row bottom_row
-rows_length s = (row-length s 6 (columns (record_read s)), row-length s (6 + 2 * columns (record_read s)) (columns (record_read s)))
+rows_length s = (row-length s 6 (columns_of (record_read s)), row-length s (6 + 2 * columns_of (record_read s)) (columns_of (record_read s)))
 
 -- the parts that a caller takes of the arrays are the rows
-pub rows_taken : (s : List ℕ) (n : ℕ) (top bottom : List ℕ) → Channel n ≡ record_read s
+pub rows_taken : (s : List ℕ) (n : ℕ) (top bottom : List ℕ) → Ok n ≡ record_read s
     → (take n (laid (top_row s) top) ≡ top_row s) × (take n (laid (bottom_row s) bottom) ≡ bottom_row s)
 rows_taken s n top bottom e =
     let r = rows_length s in (
-      take_at (top_row s) (drop (length (top_row s)) top) n (r.0 ∙ sym (ap columns e)),
-      take_at (bottom_row s) (drop (length (bottom_row s)) bottom) n (r.1 ∙ sym (ap columns e)),
+      take_at (top_row s) (drop (length (top_row s)) top) n (r.0 ∙ sym (ap columns_of e)),
+      take_at (bottom_row s) (drop (length (bottom_row s)) bottom) n (r.1 ∙ sym (ap columns_of e)),
     )
 
 -- what reading ensures: the answer, its number, what the arrays hold after it, and its columns, which fit in them
-abbrev pub Ensured : List ℕ → Reading → List ℕ → List ℕ → List ℕ → List ℕ → Type 0
-Ensured s r top top' bottom bottom' =
-    (r ≡ record_read s)
-    × ((number r ≡ record_refused s)
-    × ((top' ≡ if_accepted (number r) (laid (top_row s) top) top)
-    × ((bottom' ≡ if_accepted (number r) (laid (bottom_row s) bottom) bottom)
-    × ((columns r ≡ if_accepted (number r) (word s 4) 0) × (Counts (columns r) top' × Counts (columns r) bottom')))))
+abbrev pub Ensured : List ℕ → Result ℕ Refusal → List ℕ → List ℕ → List ℕ → List ℕ → Type 0
+Ensured s r above above' below below' =
+    record {
+      answer : r ≡ record_read s;
+      number : number_of r ≡ record_refused s;
+      top : above' ≡ if_accepted (number_of r) (laid (top_row s) above) above;
+      bottom : below' ≡ if_accepted (number_of r) (laid (bottom_row s) below) below;
+      columns : columns_of r ≡ if_accepted (number_of r) (word s 4) 0;
+      counts : Counts (columns_of r) above' × Counts (columns_of r) below';
+    }
 
 -- a part that fits
 counts : (n : ℕ) (xs : List ℕ) → n ≤ length xs → Counts n xs
 counts n xs h = (h, sym (length-take-le n xs h))
 
 -- all that is ensured, from the answer and what the arrays hold
-answered : (s : List ℕ) (r : Reading) (top top' bottom bottom' : List ℕ) → r ≡ record_read s → top' ≡ if_accepted (number r) (laid (top_row s) top) top
-    → bottom' ≡ if_accepted (number r) (laid (bottom_row s) bottom) bottom → columns r ≤ length top' → columns r ≤ length bottom'
+answered : (s : List ℕ) (r : Result ℕ Refusal) (top top' bottom bottom' : List ℕ) → r ≡ record_read s → top' ≡ if_accepted (number_of r) (laid (top_row s) top) top
+    → bottom' ≡ if_accepted (number_of r) (laid (bottom_row s) bottom) bottom → columns_of r ≤ length top' → columns_of r ≤ length bottom'
     → Ensured s r top top' bottom bottom'
 answered s r top top' bottom bottom' e f g k l =
-    (e, (ap number e ∙ numbered s, (f, (g, (columns_by s r e, (counts (columns r) top' k, counts (columns r) bottom' l))))))
+    record {
+      answer = e;
+      number = ap number_of e ∙ numbered s;
+      top = f;
+      bottom = g;
+      columns = columns_by s r e;
+      counts = (counts (columns_of r) top' k, counts (columns_of r) bottom' l);
+    }
 
 -- a refusal: the arrays are as they were
-pub read_refused : (s : List ℕ) (k : ℕ) (top bottom : List ℕ) → k ≡ record_refused s → (k ≡ 0 → ⊥) → Ensured s (Refused k) top top bottom bottom
-read_refused s k top bottom e h =
-    answered s (Refused k) top top bottom bottom (refused_is s k e h) (sym (accepted_old k (laid (top_row s) top) top h))
-    (sym (accepted_old k (laid (bottom_row s) bottom) bottom h)) (omega arith) (omega arith)
+pub read_refused : (s : List ℕ) (r : Refusal) (top bottom : List ℕ) → number r ≡ record_refused s → Ensured s (Err r) top top bottom bottom
+read_refused s r top bottom e =
+    answered s (Err r) top top bottom bottom (refused_is s r e) (sym (accepted_old (number r) (laid (top_row s) top) top (number_nonzero r)))
+    (sym (accepted_old (number r) (laid (bottom_row s) bottom) bottom (number_nonzero r))) (omega arith) (omega arith)
 
 -- a channel: the arrays hold its rows
-pub read_channel : (s : List ℕ) (k n : ℕ) (top top' bottom bottom' : List ℕ) → k ≡ record_refused s → k ≡ 0 → n ≡ word s 4
+pub read_channel : (s : List ℕ) (n : ℕ) (top top' bottom bottom' : List ℕ) → 0 ≡ record_refused s → n ≡ word s 4
     → top' ≡ laid (row s 6 n) top → bottom' ≡ laid (row s (6 + 2 * n) n) bottom → 256 ≤ length top' → 256 ≤ length bottom'
-    → Ensured s (Channel n) top top' bottom bottom'
+    → Ensured s (Ok n) top top' bottom bottom'
 unfolding top_row bottom_row
-read_channel s k n top top' bottom bottom' e h f g l a b =
-    let w = whole_record s k e h in
-    let c = channel_is s k n e h f in
-    answered s (Channel n) top top' bottom bottom' c (g ∙ ap (λ (z : Reading). laid (row s 6 (columns z)) top) c)
-    (l ∙ ap (λ (z : Reading). laid (row s (6 + 2 * columns z) (columns z)) bottom) c) (omega (arith, w.short, w.exact)) (omega (arith, w.short, w.exact))
+read_channel s n top top' bottom bottom' e f g l a b =
+    let w = whole_record s e in
+    let c = channel_is s n e f in
+    answered s (Ok n) top top' bottom bottom' c (g ∙ ap (λ (z : Result ℕ Refusal). laid (row s 6 (columns_of z)) top) c)
+    (l ∙ ap (λ (z : Result ℕ Refusal). laid (row s (6 + 2 * columns_of z) (columns_of z)) bottom) c) (omega (arith, w.short, w.exact)) (omega (arith, w.short, w.exact))

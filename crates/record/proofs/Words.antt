@@ -5,7 +5,7 @@ use mathlib.Core.List.{List, [], ◌∷◌, ◌++◌}
 use native.Mathlib.Omega.{arith}
 use lib.ListN.{length, get_or, take, drop, length-append, length-drop}
 use lib.Seq.{take-suc, take_at, drop_at, get_or-drop, take_all}
-use Rattle.record.specs.declared.Reading.TheVariants.{Channel}
+use Rattle.std.specs.Prelude.{Ok}
 use Rattle.record.specs.Record.{word, row, record_refused, record_read, columns, top_row, bottom_row, two_bytes, words, fields, record_of}
 use Rattle.record.proofs.Refusals.{whole, channel_is}
 
@@ -82,8 +82,8 @@ module _ (top bottom : List ℕ) (same : length top ≡ length bottom) (few : le
       (omega arith) (length top) (sym (field_at 2 4 refl)) (omega arith)
 
   -- and is read as these rows
-  pub record_read_lem : record_read (record_of top bottom) ≡ Channel (length top)
-  record_read_lem = sym (channel_is (record_of top bottom) 0 (length top) not_refused refl (sym (field_at 2 4 refl)))
+  pub record_read_lem : record_read (record_of top bottom) ≡ Ok (length top)
+  record_read_lem = sym (channel_is (record_of top bottom) (length top) not_refused (sym (field_at 2 4 refl)))
 
   pub record_top : top_row (record_of top bottom) ≡ top
   unfolding top_row record_of

@@ -1,9 +1,9 @@
 -- Document 01, "Record and listing" and the table's rows 1 to 3: what the bytes of a record say, and the bytes of a channel's record. Places are counted
 -- from 0.
-use Rattle.std.specs.Prelude.{ℕ, zero, suc, ◌+◌, ◌*◌, ◌-◌, ◌/◌, ◌%◌, Bool, not, ◌||◌, List, [], ◌∷◌, ◌++◌, eqb, ltb, length, get_or, drop}
+use Rattle.std.specs.Prelude.{ℕ, zero, suc, ◌+◌, ◌*◌, ◌-◌, ◌/◌, ◌%◌, Bool, not, ◌||◌, List, [], ◌∷◌, ◌++◌, eqb, ltb, length, get_or, drop, Result}
 use Rattle.grid.specs.Channel.{pick}
-use Rattle.record.specs.declared.Reading.{Reading}
-use Rattle.record.specs.declared.Reading.TheVariants.{Channel, Refused}
+use Rattle.grid.specs.declared.refusals.Refusal.{Refusal}
+use Rattle.grid.specs.Refusals.{figures_or, answer_of}
 
 -- "each number two bytes", "little-endian": the number at place i
 abbrev pub word : List ℕ → ℕ → ℕ
@@ -25,24 +25,13 @@ wrong_body s = ltb (length s - 4) 2 || not (eqb (length s - 4) (2 + 4 * word s 4
 unfoldable pub record_refused : List ℕ → ℕ
 record_refused s = pick (wrong_length s) 1 (pick (wrong_kind s) 2 (pick (wrong_body s) 3 0))
 
--- the document's number for each case of an answer: "The number on acceptance is 0"
-abbrev pub number : Reading → ℕ
-number (Channel n) = 0
-number (Refused k) = k
+-- the columns of an answer, "zeros" for a refusal
+abbrev pub columns : Result ℕ Refusal → ℕ
+columns r = figures_or 0 r
 
--- the columns for each case of an answer, "zeros" for a refusal
-abbrev pub columns : Reading → ℕ
-columns (Channel n) = n
-columns (Refused k) = 0
-
--- the answer by the number: a channel of n columns, or the refusal
-abbrev pub answer : ℕ → ℕ → Reading
-answer zero n = Channel n
-answer (suc k) n = Refused (suc k)
-
--- the answer to a record
-unfoldable pub record_read : List ℕ → Reading
-record_read s = answer (record_refused s) (word s 4)
+-- the answer to a record: the columns of its channel, or the refusal
+unfoldable pub record_read : List ℕ → Result ℕ Refusal
+record_read s = answer_of (record_refused s) (word s 4)
 
 -- k numbers from place at on
 unfoldable pub row : List ℕ → ℕ → ℕ → List ℕ

@@ -1,89 +1,72 @@
-// A channel read from the bytes of a record.
+// A channel read from the bytes of a record, and the writer of bytes.
 #![tactic(auto)]
 
+mod writing;
+
 ghost use Rattle.std.specs.Prelude.{◌≡◌, ◌+◌, ◌*◌, ◌≤◌, ◌<◌, length};
-ghost use Rattle.grid.specs.Refusals.{if_accepted};
-ghost use Rattle.record.specs.Record.{word as Record·word, record_refused, record_read, number, columns, row, top_row, bottom_row, laid};
+ghost use Rattle.grid.specs.Refusals.{if_accepted, number_of};
+ghost use Rattle.record.specs.Record.{word as Record·word, record_refused, record_read, columns, row, top_row, bottom_row, laid};
 ghost use Rattle.record.specs.Counts.{Counts};
 
-// A channel of that many columns, or the number of a refusal.
-#[derive(Clone, Copy)]
-pub enum Reading {
-    Channel(usize),
-    Refused(u16),
-}
-
-// A byte as a wider number.
-fn as_word(b: u8) -> u16
-    ensures { (result ≡ b) × (result ≤ 255) }
-{
-    b as u16
-}
+use grid::Refusal;
+pub use writing::Writer;
 
 // The two-byte number at place i.
 fn word(s: &[u8], i: usize) -> u16
     requires { i + 1 < length s.now }
     ensures { result ≡ Record·word s.now i }
 {
-    let low = as_word(s[i]);
-    let high = as_word(s[i + 1]);
-    low + 256 * high
+    u16::from_le_bytes([s[i], s[i + 1]])
 }
 
-// The number of the refusal, 1 to 3, or 0.
-fn refusal(s: &[u8]) -> u16
-    ensures { result ≡ record_refused s.now }
+// Whether a record is refused, and why.
+fn refusal(s: &[u8]) -> Result<(), Refusal>
+    ensures { number_of result ≡ record_refused s.now }
 {
     let size = s.len();
     if size < 4 {
-        return 1;
+        return Err(Refusal::RecordLength);
     }
     if 1030 < size {
-        return 1;
+        return Err(Refusal::RecordLength);
     }
-    if word(s, 0) as usize != size - 2 {
-        return 1;
+    if usize::from(word(s, 0)) != size - 2 {
+        return Err(Refusal::RecordLength);
     }
     if word(s, 2) != 1 {
-        return 2;
+        return Err(Refusal::RecordKind);
     }
     if size - 4 < 2 {
-        return 3;
+        return Err(Refusal::RecordBody);
     }
-    if size - 4 != 2 + 4 * (word(s, 4) as usize) {
-        return 3;
+    if size - 4 != 2 + 4 * usize::from(word(s, 4)) {
+        return Err(Refusal::RecordBody);
     }
-    0
+    Ok(())
 }
 
-// The n numbers from place at on, into the first elements of out.
-fn put_row(s: &[u8], at: usize, n: usize, out: &mut [u16])
-    requires n_in_bounds { n ≤ length out.old }
-    requires n_in_bounds_2 { at + 2 * n ≤ length s.now }
-    ensures { out.new ≡ laid (row s.now at n) out.old }
+// The numbers of a row, from place at on.
+fn read_row(s: &[u8], at: usize, out: &mut [u16])
+    requires { at + 2 * length out.old ≤ length s.now }
+    ensures { out.new ≡ row s.now at (length out.old) }
 {
-    let mut i = 0;
-    while i < n {
-        out[i] = word(s, at + 2 * i);
-        i += 1;
+    for (i, net) in out.iter_mut().enumerate() {
+        *net = word(s, at + 2 * i);
     }
 }
 
-// The rows of a channel, into the first elements of two arrays. A refused record leaves them as they are.
-pub fn read(bytes: &[u8], top: &mut [u16; 256], bottom: &mut [u16; 256]) -> Reading
+// The rows of a channel, into the first elements of two arrays; how many columns it has. A refused record leaves them as they are.
+pub fn read(bytes: &[u8], top: &mut [u16; 256], bottom: &mut [u16; 256]) -> Result<usize, Refusal>
     ensures answer { result ≡ record_read bytes.now }
-    ensures number { number result ≡ record_refused bytes.now }
-    ensures top { top.new ≡ if_accepted (number result) (laid (top_row bytes.now) top.old) top.old }
-    ensures bottom { bottom.new ≡ if_accepted (number result) (laid (bottom_row bytes.now) bottom.old) bottom.old }
-    ensures columns { columns result ≡ if_accepted (number result) (Record·word bytes.now 4) 0 }
+    ensures number { number_of result ≡ record_refused bytes.now }
+    ensures top { top.new ≡ if_accepted (number_of result) (laid (top_row bytes.now) top.old) top.old }
+    ensures bottom { bottom.new ≡ if_accepted (number_of result) (laid (bottom_row bytes.now) bottom.old) bottom.old }
+    ensures columns { columns result ≡ if_accepted (number_of result) (Record·word bytes.now 4) 0 }
     ensures counts { Counts (columns result) top.new × Counts (columns result) bottom.new }
 {
-    let k = refusal(bytes);
-    if k != 0 {
-        return Reading::Refused(k);
-    }
-    let n = word(bytes, 4) as usize;
-    put_row(bytes, 6, n, top);
-    put_row(bytes, 6 + 2 * n, n, bottom);
-    Reading::Channel(n)
+    refusal(bytes)?;
+    let n = usize::from(word(bytes, 4));
+    read_row(bytes, 6, &mut top[..n]);
+    read_row(bytes, 6 + 2 * n, &mut bottom[..n]);
+    Ok(n)
 }

@@ -1,33 +1,33 @@
 -- The report's answer and the table after it, by the number of the refusal, and at each way out of the code. Assumes nothing.
 use Prim.Native.Nat.{ℕ, zero, suc, ◌≤◌, ◌<◌}
-use mathlib.Core.Path.{◌≡◌, refl, sym, ap, subst, ◌∙◌}
+use mathlib.Core.Path.{◌≡◌, refl, sym, ap, ◌∙◌}
 use mathlib.Core.Bool.{Bool, true, false}
 use mathlib.Core.Logic.{◌≢◌, inl}
 use mathlib.Core.List.{List, ◌++◌}
 use lib.Dec.{ltb}
-use lib.ListN.{length, take, drop}
-use lib.Seq.{take_all}
+use lib.ListN.{length, drop}
 use native.Mathlib.Omega.{arith}
+use Rattle.std.specs.Prelude.{Ok, Err}
+use Rattle.std.proofs.Common.{rules}
+use Rattle.grid.specs.declared.refusals.Refusal.{Refusal}
+use Rattle.grid.specs.declared.refusals.Refusal.TheVariants.{TableTooShort}
 use Rattle.grid.specs.Channel.{pick, rows_refused}
-use Rattle.grid.specs.Refusals.{first_refusal, if_accepted}
-use Rattle.grid.specs.declared.RowCheck.{RowCheck}
-use Rattle.grid.specs.declared.RowCheck.TheVariants as rows
-use Rattle.grid.specs.Answers.{row_check, number_of as row_number}
-use Rattle.grid.proofs.Answers.{first_past, first_here, check_number, accepted_old, refused as row-refused}
+use Rattle.grid.specs.Refusals.{first_refusal, if_accepted, number as number_by, refusal}
+use Rattle.grid.proofs.Numbers.{number_refusal, refusal_number, number_nonzero, pick_within, first_within}
+use Rattle.grid.proofs.Answers.{first_past, first_here, accepted_old, rows_within}
 use Rattle.grid.proofs.Tests.{Below, above, below_by, lt-ltb, le-ltb}
 use Rattle.checker.specs.declared.Fault.{Fault}
-use Rattle.checker.specs.declared.Checked.{Checked}
-use Rattle.checker.specs.Check.{number_of, place_of, fault_column, fault_row, drawing_refused, checked}
+use Rattle.checker.specs.declared.Told.{Told}
+use Rattle.checker.specs.Check.{told, checked_by, drawing_refused, place, column, row, checked}
 use Rattle.checker.specs.Check as checking
-use Rattle.checker.proofs.Answers.{no_place_else, no_point_else, check_parts, rows_low}
+use Rattle.checker.specs.Working.{fault_at}
+use Rattle.checker.proofs.Answers.{no_place_else, no_point_else, rows_low, drawing_within}
 use Rattle.report.specs.declared.NetRecord.{NetRecord}
 use Rattle.report.specs.declared.Drawing.{Drawing}
 use Rattle.report.specs.declared.Drawing.TheVariants.{Absent, Given}
-use Rattle.report.specs.declared.Collected.{Collected}
-use Rattle.report.specs.declared.Reported.TheVariants.{Filled}
 use Rattle.report.specs.Report as reporting
-use Rattle.report.specs.Report.{blank_table, number_only, fault_of, answer_of, drawing_number, fault_with, records, refused, reported, collected, table_after}
-use Rattle.report.specs.Working.{refused_with}
+use Rattle.report.specs.Report.{Reported, number_only, fault_of, answer_with, drawing_number, fault_with, records, refused, reported, table_after}
+use Rattle.report.specs.Working.{drawing_reported}
 use Rattle.report.proofs.Records.{records_long}
 
 -- WHAT IS TOLD OF A NUMBER
@@ -49,31 +49,47 @@ module _ (top bottom : List ℕ) (drawing : Drawing) (D : List ℕ) where
       go Absent = refl
       go (Given w t) = refl
 
+  -- the table has the drawing's number
+  drawing_number_within : drawing_number top bottom drawing D ≤ 24
+  drawing_number_within = go drawing
+    where
+      go : (d : Drawing) → drawing_number top bottom d D ≤ 24
+      go Absent = omega arith
+      go (Given w t) = drawing_within top bottom w t D
+
+  -- and the call's
+  refused_within : (size : ℕ) → refused top bottom drawing D size ≤ 24
+  unfolding refused
+  refused_within size = search (rules, pick_within, first_within, rows_within, drawing_number_within) depth 12
+
+  -- what an answer with a number tells
+  pub fault_of-answer : (k : ℕ) → k ≤ 24 → fault_of (answer_with k (fault_with top bottom drawing D k)) ≡ fault_with top bottom drawing D k
+  fault_of-answer zero l = fault_low 0 (omega arith)
+  fault_of-answer (suc k) l =
+      ap (λ (n : ℕ). record { number = n; place = (fault_with top bottom drawing D (suc k)).place; column = (fault_with top bottom drawing D (suc k)).column; row = (fault_with top bottom drawing D (suc k)).row })
+      (number_refusal (suc k) (omega arith) l ∙ sym (fault_number (suc k)))
+
   -- what the answer tells
   pub fault_of-reported : (size : ℕ) → fault_of (reported top bottom drawing D size) ≡ fault_with top bottom drawing D (refused top bottom drawing D size)
   unfolding reported
-  fault_of-reported size = go (refused top bottom drawing D size)
-    where
-      go : (k : ℕ) → fault_of (answer_of k (fault_with top bottom drawing D k)) ≡ fault_with top bottom drawing D k
-      go zero = fault_low 0 (omega arith)
-      go (suc k) = refl
+  fault_of-reported size = fault_of-answer (refused top bottom drawing D size) (refused_within size)
 
   -- its number
   pub number : (size : ℕ) → reporting.number_of (reported top bottom drawing D size) ≡ refused top bottom drawing D size
-  number size = ap (λ (f : Fault). f.number) (fault_of-reported size) ∙ fault_number (refused top bottom drawing D size)
+  number size = ap (λ (f : Told). f.number) (fault_of-reported size) ∙ fault_number (refused top bottom drawing D size)
 
--- THE CHECKER'S ANSWER for a drawing of accepted rows
+-- THE CHECKER'S ANSWER for a drawing of accepted rows is the report's
+answers_alike : (k p c r : ℕ) → checked_by k p c r ≡ answer_with k (record { number = k; place = p; column = c; row = r })
+answers_alike zero p c r = refl
+answers_alike (suc k) p c r = refl
 
--- its number, place, column and row
-abbrev pub told : Checked → Fault
-told c = record { number = number_of c; place = place_of c; column = fault_column c; row = fault_row c }
-
-pub checker_fault : (top bottom : List ℕ) (w t : ℕ) (D : List ℕ) (c : Checked) → rows_refused top bottom 256 ≡ 0 → c ≡ checked top bottom w t D
-    → told c ≡ fault_with top bottom (Given w t) D (drawing_refused top bottom w t D)
-unfolding checking.refused
-checker_fault top bottom w t D c z e =
-    let (n, p, x, y) = check_parts top bottom w t D in
-    ap told e ∙ rw (p, x, y, n) (ap (λ (k : ℕ). fault_with top bottom (Given w t) D (first_refusal k (drawing_refused top bottom w t D))) z)
+pub checker_reported : (top bottom : List ℕ) (w t : ℕ) (D : List ℕ) → rows_refused top bottom 256 ≡ 0
+    → checked top bottom w t D ≡ drawing_reported top bottom (Given w t) D
+unfolding checked checking.refused
+checker_reported top bottom w t D z =
+    let k = drawing_refused top bottom w t D in
+    ap (λ (n : ℕ). let m = first_refusal n k in checked_by m (place top bottom w t D m) (column top bottom w t D m) (row top bottom w t D m)) z
+    ∙ answers_alike k (place top bottom w t D k) (column top bottom w t D k) (row top bottom w t D k)
 
 -- NUMBERS
 
@@ -145,87 +161,83 @@ module _ (top bottom : List ℕ) (drawing : Drawing) (D : List ℕ) (table : Lis
   unfolding table_after
   table_filled z = ap (λ (j : ℕ). if_accepted j (records top bottom drawing D ++ drop 256 table) table) z
 
--- WHAT IS COLLECTED
+-- ANSWERS WITH A NUMBER
 
-module _ (top bottom : List ℕ) (drawing : Drawing) (D : List ℕ) (size : ℕ) where
-  -- by the number
-  abbrev collected_by : ℕ → Collected
-  collected_by k =
-      record { answer = answer_of k (fault_with top bottom drawing D k); count = if_accepted k 256 0; records = if_accepted k (records top bottom drawing D) blank_table }
+-- a fault, and what is told of it
+fault_by : (k : ℕ) (t : Told) (f : Fault) → k ≤ 24 → t.number ≡ k → Err f ≡ answer_with k t → (number_by f.refusal ≡ k) × (told f ≡ t)
+fault_by zero t f l n e = absurd (cc)
+fault_by (suc k) t f l n e =
+    let g : f ≡ record { refusal = refusal (suc k); place = t.place; column = t.column; row = t.row } = cc in
+    let m = ap (λ (f : Fault). number_by f.refusal) g ∙ number_refusal (suc k) (omega arith) l in
+    (m, ap told g ∙ ap (λ (n : ℕ). record { number = n; place = t.place; column = t.column; row = t.row }) (number_refusal (suc k) (omega arith) l ∙ sym n))
 
-  -- the number is that of the call
-  collects : (k : ℕ) → k ≡ refused top bottom drawing D size → collected_by k ≡ collected top bottom drawing D size
-  unfolding collected reported
-  collects k e = ap collected_by e
+-- a fault is the answer with its number
+is_fault : (k : ℕ) (t : Told) (f : Fault) → number_by f.refusal ≡ k → told f ≡ t → Err f ≡ answer_with k t
+is_fault zero t f n e = absurd (number_nonzero f.refusal n)
+is_fault (suc k) t f n e =
+    ap (λ (r : Refusal). Err (record { refusal = r; place = f.place; column = f.column; row = f.row })) (sym (refusal_number f.refusal) ∙ ap refusal n)
+    ∙ ap (λ (t : Told). Err (record { refusal = refusal (suc k); place = t.place; column = t.column; row = t.row })) e
 
-  -- a refusal with its number and what is told of it
-  refuses : (k : ℕ) (f : Fault) → k ≢ 0 → k ≡ refused top bottom drawing D size → f ≡ fault_with top bottom drawing D k
-      → refused_with f ≡ collected top bottom drawing D size
-  refuses zero f n e g = absurd (n refl)
-  refuses (suc k) f n e g = ap refused_with g ∙ collects (suc k) e
+-- no fault is that with 0
+no_fault : (k : ℕ) (t : Told) → Ok tt ≡ answer_with k t → k ≡ 0
+no_fault zero t e = refl
+no_fault (suc k) t e = absurd (cc)
 
-  -- of the rows, where the row check answers `Refused`
-  pub refuses_rows : (r : RowCheck) (j k : ℕ) → r ≡ row_check top bottom 256 → r ≡ rows.Refused j → k ≡ row_number r → refused_with (number_only k) ≡ collected top bottom drawing D size
-  refuses_rows r j k e f g =
-      let i : k ≡ rows_refused top bottom 256 = g ∙ ap row_number e ∙ check_number top bottom 256 in
-      let n = row-refused top bottom 256 r j e f in
-      refuses k (number_only k) (λ z. n (sym i ∙ z)) (i ∙ by_rows top bottom drawing D size n)
-      (fault_low top bottom drawing D k (omega (arith, i, rows_low top bottom 256)))
+is_fine : (k : ℕ) (t : Told) → k ≡ 0 → Ok tt ≡ answer_with k t
+is_fine zero t z = refl
+is_fine (suc k) t z = absurd (omega arith)
+
+-- an answer without a fault is that of a call that is not refused
+pub passed : (top bottom : List ℕ) (drawing : Drawing) (D : List ℕ) (size : ℕ) → Ok tt ≡ reported top bottom drawing D size → refused top bottom drawing D size ≡ 0
+unfolding reported
+passed top bottom drawing D size e = no_fault (refused top bottom drawing D size) _ e
+
+-- one with a fault that of a refused one
+pub faulty : (top bottom : List ℕ) (drawing : Drawing) (D : List ℕ) (size : ℕ) (f : Fault) → Err f ≡ reported top bottom drawing D size → refused top bottom drawing D size ≢ 0
+unfolding reported
+faulty top bottom drawing D size f e z =
+    number_nonzero f.refusal ((fault_by (refused top bottom drawing D size) _ f (refused_within top bottom drawing D size) (fault_number top bottom drawing D (refused top bottom drawing D size)) e).0 ∙ z)
+
+-- THE WAYS OUT
+
+module _ (top bottom : List ℕ) (drawing : Drawing) (D : List ℕ) (table : List NetRecord) where
+  -- a fault with the call's number: the table stays
+  abbrev Refuses : Fault → Type 0
+  Refuses f = (Err f ≡ reported top bottom drawing D (length table)) × (table ≡ table_after top bottom drawing D table)
+
+  refuses : (f : Fault) → number_by f.refusal ≡ refused top bottom drawing D (length table) → told f ≡ fault_with top bottom drawing D (number_by f.refusal) → Refuses f
+  unfolding reported
+  refuses f n e = (
+    is_fault (refused top bottom drawing D (length table)) _ f n (e ∙ ap (fault_with top bottom drawing D) n),
+    sym (table_of_refusal top bottom drawing D table (λ z. number_nonzero f.refusal (n ∙ z))),
+  )
+
+  -- of the rows
+  pub refuses_rows : (r : Refusal) → number_by r ≡ rows_refused top bottom 256 → Refuses (fault_at r 0)
+  refuses_rows r e =
+      refuses (fault_at r 0) (e ∙ by_rows top bottom drawing D (length table) (λ z. number_nonzero r (e ∙ z)))
+      (fault_low top bottom drawing D (number_by r) (omega (arith, e, rows_low top bottom 256)))
 
   module _ (e : rows_refused top bottom 256 ≡ 0) where
     -- of the table
-    pub refuses_table : size < 256 → refused_with (number_only 9) ≡ collected top bottom drawing D size
-    refuses_table l =
-        refuses 9 (number_only 9) (λ z. absurd (omega arith)) (by_table top bottom drawing D size e l) (fault_low top bottom drawing D 9 (omega arith))
+    pub refuses_table : length table < 256 → Refuses (fault_at TableTooShort 0)
+    refuses_table l = refuses (fault_at TableTooShort 0) (by_table top bottom drawing D (length table) e l) (fault_low top bottom drawing D 9 (omega arith))
 
-    module _ (l : 256 ≤ size) (f : Fault) (is : f ≡ fault_with top bottom drawing D (drawing_number top bottom drawing D)) where
-      -- the fault's number
-      pub told_number : f.number ≡ drawing_number top bottom drawing D
-      told_number = ap (λ (g : Fault). g.number) is ∙ fault_number top bottom drawing D (drawing_number top bottom drawing D)
-
+    module _ (l : 256 ≤ length table) where
       -- of the drawing
-      pub refuses_drawing : f.number ≢ 0 → refused_with f ≡ collected top bottom drawing D size
-      refuses_drawing n =
-          refuses (drawing_number top bottom drawing D) f (λ z. n (told_number ∙ z)) (by_drawing top bottom drawing D size e l) is
+      pub refuses_drawing : (f : Fault) → Err f ≡ drawing_reported top bottom drawing D → Refuses f
+      refuses_drawing f is =
+          let k = drawing_number top bottom drawing D in
+          let (n, t) = fault_by k (fault_with top bottom drawing D k) f (drawing_number_within top bottom drawing D) (fault_number top bottom drawing D k) is in
+          refuses f (n ∙ by_drawing top bottom drawing D (length table) e l) (t ∙ ap (fault_with top bottom drawing D) (sym n))
 
       -- no refusal
-      pub fills : f.number ≡ 0 → (nets : List NetRecord) → nets ≡ records top bottom drawing D
-          → record { answer = Filled; count = 256; records = nets } ≡ collected top bottom drawing D size
+      pub drawing_passed : Ok tt ≡ drawing_reported top bottom drawing D → drawing_number top bottom drawing D ≡ 0
+      drawing_passed is = no_fault (drawing_number top bottom drawing D) _ is
+
+      pub fills : drawing_number top bottom drawing D ≡ 0 → (nets : List NetRecord) → nets ≡ records top bottom drawing D
+          → (Ok tt ≡ reported top bottom drawing D (length table)) × (nets ++ drop 256 table ≡ table_after top bottom drawing D table)
+      unfolding reported
       fills z nets h =
-          ap (λ (xs : List NetRecord). record { answer = Filled; count = 256; records = xs }) h
-          ∙ collects 0 (sym z ∙ told_number ∙ by_drawing top bottom drawing D size e l)
-
--- what is written leaves the table that the call leaves
-pub record Writes (top bottom : List ℕ) (drawing : Drawing) (D : List ℕ) (size : ℕ) (c : Collected) : Type 0 where
-  pub answers : c.answer ≡ reported top bottom drawing D size
-  pub few : c.count ≤ 256
-  pub fits : c.count ≤ size
-  pub leaves : (table : List NetRecord) → length table ≡ size → take c.count c.records ++ drop c.count table ≡ table_after top bottom drawing D table
-
-pub writes : (top bottom : List ℕ) (drawing : Drawing) (D : List ℕ) (size : ℕ) (c : Collected) → c ≡ collected top bottom drawing D size → Writes top bottom drawing D size c
-unfolding reported
-writes top bottom drawing D size c e =
-    subst (Writes top bottom drawing D size) (sym (e ∙ sym (collects top bottom drawing D size (refused top bottom drawing D size) refl)))
-    (go (refused top bottom drawing D size) refl)
-  where
-    answered : (k : ℕ) → k ≡ refused top bottom drawing D size → answer_of k (fault_with top bottom drawing D k) ≡ reported top bottom drawing D size
-    answered k e = ap (λ (j : ℕ). answer_of j (fault_with top bottom drawing D j)) e
-
-    same_size : (table : List NetRecord) (k : ℕ) → length table ≡ size → k ≡ refused top bottom drawing D size → refused top bottom drawing D (length table) ≡ k
-    same_size table k l e = ap (refused top bottom drawing D) l ∙ sym e
-
-    go : (k : ℕ) → k ≡ refused top bottom drawing D size → Writes top bottom drawing D size (collected_by top bottom drawing D size k)
-    go zero e = record {
-      answers = answered 0 e;
-      few = omega arith;
-      fits = (accepted_report top bottom drawing D size (sym e)).1;
-      leaves = λ table l.
-          ap (λ (xs : List NetRecord). xs ++ drop 256 table) (take_all 256 (records top bottom drawing D) (omega (arith, records_long top bottom drawing D)))
-          ∙ sym (table_filled top bottom drawing D table (same_size table 0 l e));
-    }
-    go (suc k) e = record {
-      answers = answered (suc k) e;
-      few = omega arith;
-      fits = omega arith;
-      leaves = λ table l. sym (table_of_refusal top bottom drawing D table (λ z. absurd (omega (arith, same_size table (suc k) l e, z))));
-    }
+          let n : refused top bottom drawing D (length table) ≡ 0 = sym (by_drawing top bottom drawing D (length table) e l) ∙ z in
+          (is_fine (refused top bottom drawing D (length table)) _ n, ap (λ (xs : List NetRecord). xs ++ drop 256 table) h ∙ sym (table_filled top bottom drawing D table n))

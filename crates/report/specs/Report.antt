@@ -1,37 +1,38 @@
 -- Document 01: "The net report fills a lent table of net records, one per number 1 to 256: first column, last column, pin count; zeros for an unused
 -- number. Records after the 256th keep their contents." The first record is that of net 1. Document 02, Job 2: "The net record gains a length, filled in
 -- from a drawing; the report without a drawing puts 0 there."
-use Rattle.std.specs.Prelude.{ℕ, zero, suc, List, [], ◌∷◌, ◌++◌, ltb, length, drop, replicate}
+use Rattle.std.specs.Prelude.{ℕ, zero, suc, List, [], ◌∷◌, ◌++◌, ltb, length, drop, replicate, Result, Ok, Err}
 use Rattle.grid.specs.Channel.{pick, pins, rows_refused}
 use Rattle.grid.specs.Nets.{first_column, last_column}
-use Rattle.grid.specs.Refusals.{first_refusal, if_accepted}
+use Rattle.grid.specs.Refusals.{first_refusal, if_accepted, refusal}
 use Rattle.checker.specs.declared.Fault.{Fault}
-use Rattle.checker.specs.Check.{drawing_refused, place, column, row}
+use Rattle.checker.specs.declared.Told.{Told}
+use Rattle.checker.specs.Check.{told_of, drawing_refused, place, column, row}
 use Rattle.report.specs.declared.NetRecord.{NetRecord}
 use Rattle.report.specs.declared.Drawing.{Drawing}
 use Rattle.report.specs.declared.Drawing.TheVariants.{Absent, Given}
-use Rattle.report.specs.declared.Reported.{Reported}
-use Rattle.report.specs.declared.Collected.{Collected}
-use Rattle.report.specs.declared.Reported.TheVariants.{Filled, Refused}
 use Rattle.report.specs.Length.{wire_length}
 
 -- a number without place, column and row
-abbrev pub number_only : ℕ → Fault
+abbrev pub number_only : ℕ → Told
 number_only k = record { number = k; place = 0; column = 0; row = 0 }
 
+-- the answer of a report: a table that is filled, or the fault
+abbrev pub Reported : Type 0
+Reported = Result (Unit {0}) Fault
+
 -- the document's number, place, column and row for each case of the answer: "The number on acceptance is 0"
-abbrev pub fault_of : Reported → Fault
-fault_of Filled = number_only 0
-fault_of (Refused f) = f
+abbrev pub fault_of : Reported → Told
+fault_of r = told_of r
 
 -- its number
 abbrev pub number_of : Reported → ℕ
 number_of r = (fault_of r).number
 
 -- the answer with a number and what is told of it
-abbrev pub answer_of : ℕ → Fault → Reported
-answer_of zero f = Filled
-answer_of (suc k) f = Refused f
+abbrev pub answer_with : ℕ → Told → Reported
+answer_with zero t = Ok tt
+answer_with (suc k) t = Err (record { refusal = refusal (suc k); place = t.place; column = t.column; row = t.row })
 
 -- f at the numbers 1 to k
 unfoldable pub up_to : (ℕ → NetRecord) → ℕ → List NetRecord
@@ -54,7 +55,7 @@ module _ (top bottom : List ℕ) where
   drawing_number (Given w t) D = drawing_refused top bottom w t D
 
   -- the checker's place, column and row that go with a number
-  abbrev pub fault_with : Drawing → (D : List ℕ) → (number : ℕ) → Fault
+  abbrev pub fault_with : Drawing → (D : List ℕ) → (number : ℕ) → Told
   fault_with Absent D k = number_only k
   fault_with (Given w t) D k = record { number = k; place = place top bottom w t D k; column = column top bottom w t D k; row = row top bottom w t D k }
 
@@ -75,12 +76,7 @@ module _ (top bottom : List ℕ) (drawing : Drawing) (D : List ℕ) where
 
   -- the answer for a table of so many records
   unfoldable pub reported : (size : ℕ) → Reported
-  reported size = answer_of (refused size) (fault_with top bottom drawing D (refused size))
-
-  -- the answer and what is written: all records on acceptance, none on refusal
-  unfoldable pub collected : (size : ℕ) → Collected
-  collected size =
-      record { answer = reported size; count = if_accepted (refused size) 256 0; records = if_accepted (refused size) records blank_table }
+  reported size = answer_with (refused size) (fault_with top bottom drawing D (refused size))
 
   -- the contents of the table after the call: "A refused call writes to no lent slice or table"
   unfoldable pub table_after : List NetRecord → List NetRecord

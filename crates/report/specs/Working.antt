@@ -1,22 +1,21 @@
 -- What private functions of the net report promise. No promise of a public call rests on these.
 use Rattle.std.specs.Prelude.{ℕ, ◌+◌, ◌*◌, ◌≤◌, ◌≡◌, ◌≢◌, false, List, length, take, get_or}
 use Rattle.grid.specs.Channel.{times, over}
-use Rattle.checker.specs.declared.Fault.{Fault}
 use Rattle.report.specs.declared.NetRecord.{NetRecord}
 use Rattle.report.specs.declared.Drawing.{Drawing}
 use Rattle.report.specs.declared.Drawing.TheVariants.{Absent, Given}
-use Rattle.report.specs.declared.Collected.{Collected}
-use Rattle.report.specs.declared.Reported.TheVariants.{Refused}
-use Rattle.report.specs.Report.{blank_table}
+use Rattle.report.specs.Report.{Reported, answer_with, drawing_number, fault_with}
 
 -- the record of net v from a table for each figure
 abbrev pub in_tables : (first last pins lengths : List ℕ) → ℕ → NetRecord
 in_tables first last pins lengths v =
     record { first = get_or first v 0; last = get_or last v 0; pins = get_or pins v 0; length = get_or lengths v 0 }
 
--- a refused call: no record is written
-abbrev pub refused_with : Fault → Collected
-refused_with f = record { answer = Refused f; count = 0; records = blank_table }
+-- the answer on the drawing of accepted rows
+abbrev pub drawing_reported : (top bottom : List ℕ) → Drawing → (D : List ℕ) → Reported
+drawing_reported top bottom drawing D =
+    let k = drawing_number top bottom drawing D in
+    answer_with k (fault_with top bottom drawing D k)
 
 -- a layout in which lengths can be counted: of the drawing's size, within the checker's limits, and of net numbers alone
 abbrev pub Countable : Drawing → (D : List ℕ) → Type 0

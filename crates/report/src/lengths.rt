@@ -25,8 +25,7 @@ fn tally(counts: &mut [u32], number: u16)
     requires { (number < length counts.old) × (get_or counts.old number 0 ≤ 600000) }
     ensures { counts.new ≡ tallied counts.old number }
 {
-    let k = number as usize;
-    counts[k] = counts[k] + 1;
+    counts[usize::from(number)] += 1;
 }
 
 // Counts the four entries from i on, each in a table of its own, so that no count waits for the one before; the zeros past the end are no net.
@@ -45,11 +44,9 @@ fn added(a: &[u32], b: &[u32], c: &[u32], d: &[u32]) -> [u32; 257]
     requires { FourTables a.now b.now c.now d.now 600000 }
     ensures { (length result ≡ 257) × ((v : ℕ) → v < 257 → get_or result v 0 ≡ four a.now b.now c.now d.now v) }
 {
-    let mut sums = none();
-    let mut k = 0;
-    while k < 257 {
-        sums[k] = a[k] + b[k] + c[k] + d[k];
-        k += 1;
+    let mut sums = [0; 257];
+    for (v, sum) in sums.iter_mut().enumerate() {
+        *sum = a[v] + b[v] + c[v] + d[v];
     }
     sums
 }

@@ -4,15 +4,15 @@
 
 mod lengths;
 
-ghost use Rattle.std.specs.Prelude.{◌≡◌, ◌++◌, ◌≤◌, length, take, drop};
+ghost use Rattle.std.specs.Prelude.{◌≡◌, ◌≤◌, length};
 ghost use Rattle.grid.specs.Channel.{rows_refused};
 ghost use Rattle.grid.specs.Working.{ByNet};
-ghost use Rattle.report.specs.Report.{up_to, length_in, number_only, fault_of, fault_with, drawing_number, refused, reported, collected};
+ghost use Rattle.report.specs.Report.{up_to, length_in, fault_of, fault_with, refused, reported, table_after, blank_table};
 ghost use Rattle.report.specs.Report.{table_after, blank_table};
-ghost use Rattle.report.specs.Working.{in_tables, refused_with, Countable};
+ghost use Rattle.report.specs.Working.{in_tables, drawing_reported, Countable};
 
-use checker::{Checked, Fault};
-use grid::RowCheck;
+use checker::Fault;
+use grid::{NetFacts, Refusal};
 
 // Columns are counted from 1; an unused number has zeros. The length is counted in a drawing, and 0 without one. As a length needs 32 bits, all four have
 // them, so that a record has no padding.
@@ -31,47 +31,11 @@ pub enum Drawing {
     Given(usize, usize),
 }
 
-#[derive(Clone, Copy)]
-pub enum Reported {
-    Filled,
-    Refused(Fault),
-}
-
 // An answer, and the table of 256 records that the call leaves.
 #[derive(Clone, Copy)]
 pub struct Reply {
-    pub answer: Reported,
+    pub answer: Result<(), Fault>,
     pub table: [NetRecord; 256],
-}
-
-// What a call answers, and what it writes to the front of its table: the first `count` of the records.
-#[derive(Clone, Copy)]
-pub struct Collected {
-    pub answer: Reported,
-    pub count: usize,
-    pub records: [NetRecord; 256],
-}
-
-// A number without place, column and row.
-fn refusal(number: u16) -> Fault
-    ensures { result ≡ number_only number }
-{
-    Fault {
-        number,
-        place: 0,
-        column: 0,
-        row: 0,
-    }
-}
-
-// Number, place, column and row of an answer, zeros for a table that is filled.
-pub fn fault_of(r: Reported) -> Fault
-    ensures { result ≡ fault_of r }
-{
-    match r {
-        Reported::Filled => refusal(0),
-        Reported::Refused(f) => f,
-    }
 }
 
 // A table of zeros.
@@ -87,66 +51,37 @@ fn blank() -> [NetRecord; 256]
     [none; 256]
 }
 
-// A number of a record, wide enough for a length.
-fn wide(x: u16) -> u32
-    ensures { result ≡ x }
-{
-    x as u32
-}
-
-// The record of a net, from a table for each figure with the nets at their numbers.
-fn record_of(
-    first: &[u16; 257],
-    last: &[u16; 257],
-    pins: &[u16; 257],
-    lengths: &[u32; 257],
-    net: usize,
-) -> NetRecord
+// The record of a net, from the tables of the nets' facts and lengths.
+fn record_of(facts: &NetFacts, lengths: &[u32; 257], net: usize) -> NetRecord
     requires { net ≤ 256 }
-    ensures { result ≡ in_tables first.now last.now pins.now lengths.now net }
+    ensures { result ≡ in_tables facts.now.first facts.now.last facts.now.pins lengths.now net }
 {
     NetRecord {
-        first: wide(first[net]),
-        last: wide(last[net]),
-        pins: wide(pins[net]),
+        first: u32::from(facts.first[net]),
+        last: u32::from(facts.last[net]),
+        pins: u32::from(facts.pins[net]),
         length: lengths[net],
     }
 }
 
-// The records of the nets 1 to 256, from those tables.
-fn gather(
-    first: &[u16; 257],
-    last: &[u16; 257],
-    pins: &[u16; 257],
-    lengths: &[u32; 257],
-) -> [NetRecord; 256]
-    ensures { result ≡ up_to (in_tables first.now last.now pins.now lengths.now) 256 }
+// Writes the records of the nets 1 to 256, from those tables.
+fn put_records(records: &mut [NetRecord], facts: &NetFacts, lengths: &[u32; 257])
+    requires { length records.old ≡ 256 }
+    ensures { records.new ≡ up_to (in_tables facts.now.first facts.now.last facts.now.pins lengths.now) 256 }
 {
-    let mut out = blank();
-    let mut k = 0;
-    while k < 256 {
-        let net = k + 1;
-        out[k] = record_of(first, last, pins, lengths, net);
-        k = net;
+    for (k, record) in records.iter_mut().enumerate() {
+        *record = record_of(facts, lengths, k + 1);
     }
-    out
 }
 
-// What the checker finds in the drawing of accepted rows; the number 0 for nothing, and where there is no drawing.
-fn drawing_fault(top: &[u16], bottom: &[u16], drawing: Drawing, layout: &[u16]) -> Fault
+// Checks the drawing of accepted rows, if there is one.
+fn check_drawing(top: &[u16], bottom: &[u16], drawing: Drawing, layout: &[u16]) -> Result<(), Fault>
     requires { rows_refused top.now bottom.now 256 ≡ 0 }
-    ensures { result ≡ fault_with top.now bottom.now drawing layout.now
-        (drawing_number top.now bottom.now drawing layout.now) }
+    ensures { result ≡ drawing_reported top.now bottom.now drawing layout.now }
 {
     match drawing {
-        Drawing::Absent => refusal(0),
-        Drawing::Given(w, t) => {
-            let c = checker::check(top, bottom, w, t, layout);
-            let Checked::Refused(f) = c else {
-                return refusal(0);
-            };
-            f
-        }
+        Drawing::Absent => Ok(()),
+        Drawing::Given(w, t) => checker::check(top, bottom, w, t, layout),
     }
 }
 
@@ -161,61 +96,6 @@ fn lengths_in(drawing: Drawing, layout: &[u16]) -> [u32; 257]
     }
 }
 
-// A refused call: no record is written.
-fn refuse(fault: Fault) -> Collected
-    ensures { result ≡ refused_with fault }
-{
-    Collected {
-        answer: Reported::Refused(fault),
-        count: 0,
-        records: blank(),
-    }
-}
-
-// The net report for a table of `size` records, before the table is touched. Its signature names no reference to records, so its callers lend none.
-pub fn collect(
-    top: &[u16],
-    bottom: &[u16],
-    drawing: Drawing,
-    layout: &[u16],
-    size: usize,
-) -> Collected
-    ensures { result ≡ collected top.now bottom.now drawing layout.now size }
-{
-    let mut first = grid::zeros();
-    let mut last = grid::zeros();
-    let mut pins = grid::zeros();
-    let r = grid::net_facts(top, bottom, 256, &mut first, &mut last, &mut pins);
-    let RowCheck::Fit(_) = r else {
-        return refuse(refusal(grid::number_of(r)));
-    };
-    if size < 256 {
-        return refuse(refusal(9));
-    }
-    let fault = drawing_fault(top, bottom, drawing, layout);
-    if fault.number != 0 {
-        return refuse(fault);
-    }
-    let lengths = lengths_in(drawing, layout);
-    Collected {
-        answer: Reported::Filled,
-        count: 256,
-        records: gather(&first, &last, &pins, &lengths),
-    }
-}
-
-// The one thin filler: the first `count` records.
-fn fill(table: &mut [NetRecord], records: [NetRecord; 256], count: usize)
-    requires { (count ≤ 256) × (count ≤ length table.old) }
-    ensures { table.new ≡ take count records ++ drop count table.old }
-{
-    let mut i = 0;
-    while i < count {
-        table[i] = records[i];
-        i += 1;
-    }
-}
-
 // The net report, with the lengths of a drawing or without one; without one the layout is not read. A refused call does not touch the table.
 pub fn report(
     top: &[u16],
@@ -223,15 +103,20 @@ pub fn report(
     drawing: Drawing,
     layout: &[u16],
     table: &mut [NetRecord],
-) -> Reported
+) -> Result<(), Fault>
     ensures answer { result ≡ reported top.now bottom.now drawing layout.now (length table.old) }
     ensures fault { fault_of result ≡ fault_with top.now bottom.now drawing layout.now
         (refused top.now bottom.now drawing layout.now (length table.old)) }
     ensures table { table.new ≡ table_after top.now bottom.now drawing layout.now table.old }
 {
-    let c = collect(top, bottom, drawing, layout, table.len());
-    fill(table, c.records, c.count);
-    c.answer
+    let facts = grid::net_facts(top, bottom, 256)?;
+    if table.len() < 256 {
+        return Err(Fault::from(Refusal::TableTooShort));
+    }
+    check_drawing(top, bottom, drawing, layout)?;
+    let lengths = lengths_in(drawing, layout);
+    put_records(&mut table[..256], &facts, &lengths);
+    Ok(())
 }
 
 // The net report into a table of its own, zeros on refusal: the call over a slice of records, for programs, which hold no table.

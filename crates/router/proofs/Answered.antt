@@ -1,5 +1,5 @@
 -- The answers against the table of refusals: their numbers, when a call is let through, and what a routing call leaves in its slice.
-use Prim.Native.Nat.{ℕ, zero, suc, ◌+◌, ◌*◌, ◌≤◌, ◌<◌}
+use Prim.Native.Nat.{ℕ, zero, suc, ◌+◌, ◌*◌, ◌≤◌, ◌<◌, min}
 use mathlib.Core.Path.{◌≡◌, refl, sym, ap, subst, ◌∙◌}
 use mathlib.Core.Logic.{◌≢◌}
 use mathlib.Core.Bool.{Bool, true, false}
@@ -9,28 +9,18 @@ use lib.Dec.{ltb}
 use lib.ListN.{length, take, drop, length-append, length-drop}
 use lib.Seq.{take_at}
 use Rattle.grid.specs.Channel.{pick, tracks, rows_refused}
-use Rattle.grid.specs.Refusals.{first_refusal, if_accepted}
+use Rattle.std.specs.Prelude.{Result}
+use Rattle.grid.specs.declared.refusals.Refusal.{Refusal}
+use Rattle.grid.specs.Refusals.{first_refusal, if_accepted, number_of}
 use Rattle.grid.specs.Answers.{refused_within}
 use Rattle.grid.specs.Grid.{Solution}
 use Rattle.grid.proofs.Tests.{Below, above, below_by, le-ltb, lt-ltb}
-use Rattle.grid.proofs.Answers.{accepted, accepted_new, accepted_old}
+use Rattle.grid.proofs.Numbers.{number_answer, figures_answer, pick_within, first_within}
+use Rattle.grid.proofs.Answers.{rows_within, accepted, accepted_new, accepted_old}
 use Rattle.router.specs.declared.Figures.{Figures}
-use Rattle.router.specs.declared.Routed.{Routed}
-use Rattle.router.specs.declared.Length.{Length}
-use Rattle.router.specs.Answers.{number_of, figures_of, no_figures, length_number_of, entries_of, routed_by, length_by}
+use Rattle.router.specs.Answers.{figures_of, no_figures, entries_of}
 use Rattle.router.specs.Answers.{width, layout, slice_length, need, refused, figures, answer, written}
 use Rattle.router.proofs.Applied.{solved, layout-length, layout_fills}
-
--- NUMBER AND FIGURES
-
--- the number and the figures of an answer made by a number
-routed_parts : (k : ℕ) (x : Figures) → (number_of (routed_by k x) ≡ k) × (figures_of (routed_by k x) ≡ if_accepted k x no_figures)
-routed_parts zero x = (refl, refl)
-routed_parts (suc k) x = (refl, refl)
-
-length_parts : (k m : ℕ) → (length_number_of (length_by k m) ≡ k) × (entries_of (length_by k m) ≡ if_accepted k m 0)
-length_parts zero m = (refl, refl)
-length_parts (suc k) m = (refl, refl)
 
 -- a call that nothing refuses: the rows are accepted, and the slice has the entries asked for
 pub none_refused : (k asked lent : ℕ) → first_refusal k (pick (ltb lent asked) 8 0) ≡ 0 → (k ≡ 0) × (asked ≤ lent)
@@ -44,36 +34,41 @@ none_refused k asked lent = go k (ltb lent asked) (below_by lent asked)
 -- THE CALL THAT STATES THE SLICE LENGTH
 module _ (top bottom : List ℕ) where
   -- it refuses what the rows refuse
-  pub need_number : length_number_of (need top bottom) ≡ rows_refused top bottom 256
+  pub need_number : number_of (need top bottom) ≡ rows_refused top bottom 256
   unfolding need
-  need_number = (length_parts (rows_refused top bottom 256) (slice_length top bottom)).0
+  need_number = number_answer _ _ (rows_within top bottom 256)
 
   -- and states the slice length on acceptance, 0 on refusal
   pub need_entries : entries_of (need top bottom) ≡ if_accepted (rows_refused top bottom 256) (slice_length top bottom) 0
   unfolding need
-  need_entries = (length_parts (rows_refused top bottom 256) (slice_length top bottom)).1
+  need_entries = figures_answer 0 (rows_refused top bottom 256) (slice_length top bottom)
 
   -- what a call with this answer promises of it
-  pub need_promise : (r : Length) → r ≡ need top bottom
-      → (length_number_of r ≡ rows_refused top bottom 256) × (entries_of r ≡ if_accepted (length_number_of r) (slice_length top bottom) 0)
+  pub need_promise : (r : Result ℕ Refusal) → r ≡ need top bottom
+      → (number_of r ≡ rows_refused top bottom 256) × (entries_of r ≡ if_accepted (number_of r) (slice_length top bottom) 0)
   need_promise r e =
-      let n = ap length_number_of e ∙ need_number in
+      let n = ap number_of e ∙ need_number in
       (n, ap entries_of e ∙ need_entries ∙ ap (λ (k : ℕ). if_accepted k (slice_length top bottom) 0) (sym n))
 
 -- A ROUTING CALL WITH A LIMIT OF COLUMNS
 module _ (top bottom : List ℕ) (most : ℕ) where
-  -- its number is the table's
+  -- the table has its number
+  answer_within : (lent : ℕ) → refused top bottom most lent ≤ 24
+  unfolding refused
+  answer_within lent = first_within _ _ (rows_within top bottom (min most 256)) (pick_within _ 8 0 (omega arith) (omega arith))
+
+  -- so its number is the table's
   pub answer-number : (lent : ℕ) → number_of (answer top bottom most lent) ≡ refused top bottom most lent
   unfolding answer
-  answer-number lent = (routed_parts (refused top bottom most lent) (figures top bottom)).0
+  answer-number lent = number_answer _ _ (answer_within lent)
 
   -- and its figures are the channel's on acceptance, zeros on refusal
   pub answer_figures : (lent : ℕ) → figures_of (answer top bottom most lent) ≡ if_accepted (refused top bottom most lent) (figures top bottom) no_figures
   unfolding answer
-  answer_figures lent = (routed_parts (refused top bottom most lent) (figures top bottom)).1
+  answer_figures lent = figures_answer no_figures (refused top bottom most lent) (figures top bottom)
 
   -- what a call with this answer promises of it
-  pub answer_promise : (lent : ℕ) (r : Routed) → r ≡ answer top bottom most lent
+  pub answer_promise : (lent : ℕ) (r : Result Figures Refusal) → r ≡ answer top bottom most lent
       → (number_of r ≡ refused top bottom most lent) × (figures_of r ≡ if_accepted (number_of r) (figures top bottom) no_figures)
   answer_promise lent r e =
       let n = ap number_of e ∙ answer-number lent in

@@ -1,5 +1,6 @@
 -- The laws that the functions' proofs go by, in the order of the argument.
 -- Arrays   the tracks, the set of the free ones and the index of the nets' strands, as an action changes them
+-- Lent     the arrays that the structs lend
 -- Lowest   the lowest net of a set, and the lowest net on the tracks
 -- Sets     the free tracks, the extended and the wide nets as sets
 -- Scans    the second lowest strand of a net
@@ -16,6 +17,7 @@
 -- Calls    from the row check's answer to the calls' promises
 -- Standing arrays that stand for a channel of two-pin nets: as the sweep begins, after one column more, with a late net
 pub mod Arrays
+pub mod Lent
 pub mod Lowest
 pub mod Sets
 pub mod Scans

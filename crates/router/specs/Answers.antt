@@ -1,49 +1,23 @@
 -- Document 01, "Refused, by place", and the figures: what the calls of the router answer, and what a routing call leaves in its slice.
-use Rattle.std.specs.Prelude.{ℕ, zero, suc, ◌+◌, ◌*◌, ◌/◌, List, ◌++◌, ltb, length, drop}
+use Rattle.std.specs.Prelude.{ℕ, ◌+◌, ◌*◌, ◌/◌, List, ◌++◌, ltb, length, drop, Result}
 use Rattle.grid.specs.Channel.{pick, density, tracks, rows_refused}
-use Rattle.grid.specs.Refusals.{first_refusal, if_accepted}
+use Rattle.grid.specs.declared.refusals.Refusal.{Refusal}
+use Rattle.grid.specs.Refusals.{first_refusal, if_accepted, figures_or, answer_of}
 use Rattle.grid.specs.Answers.{refused_within}
 use Rattle.router.specs.declared.Figures.{Figures}
-use Rattle.router.specs.declared.Routed.{Routed}
-use Rattle.router.specs.declared.Routed.TheVariants as routed
-use Rattle.router.specs.declared.Length.{Length}
-use Rattle.router.specs.declared.Length.TheVariants as stated
 use Rattle.sweep.specs.Drawing as Drawing
 
 -- "A refusal returns its number and zeros for density, tracks, width, slice length and every other figure"; "The number on acceptance is 0."
--- A ROUTING CALL
--- the number of its answer
-abbrev pub number_of : Routed → ℕ
-number_of (routed.Drawn x) = 0
-number_of (routed.Refused k) = k
-
--- its figures, zeros on refusal
+-- THE FIGURES of a routing call's answer, zeros on refusal
 abbrev pub no_figures : Figures
 no_figures = record { density = 0; tracks = 0; width = 0 }
 
-abbrev pub figures_of : Routed → Figures
-figures_of (routed.Drawn x) = x
-figures_of (routed.Refused k) = no_figures
+abbrev pub figures_of : Result Figures Refusal → Figures
+figures_of r = figures_or no_figures r
 
--- the answer with a number and figures
-abbrev pub routed_by : ℕ → Figures → Routed
-routed_by zero x = routed.Drawn x
-routed_by (suc k) x = routed.Refused (suc k)
-
--- THE CALL THAT STATES THE SLICE LENGTH
--- the number and the entries of its answer
-abbrev pub length_number_of : Length → ℕ
-length_number_of (stated.Entries m) = 0
-length_number_of (stated.Refused k) = k
-
-abbrev pub entries_of : Length → ℕ
-entries_of (stated.Entries m) = m
-entries_of (stated.Refused k) = 0
-
--- the answer with a number and entries
-abbrev pub length_by : ℕ → ℕ → Length
-length_by zero m = stated.Entries m
-length_by (suc k) m = stated.Refused (suc k)
+-- and the entries of the call that states the slice length
+abbrev pub entries_of : Result ℕ Refusal → ℕ
+entries_of r = figures_or 0 r
 
 -- THE DRAWING OF A CHANNEL: the sweep's, on the channel's tracks
 module _ (top bottom : List ℕ) where
@@ -66,8 +40,8 @@ module _ (top bottom : List ℕ) where
   slice_length = width top bottom * (2 * tracks top bottom + 1)
 
   -- the call that states it
-  unfoldable pub need : Length
-  need = length_by (rows_refused top bottom 256) slice_length
+  unfoldable pub need : Result ℕ Refusal
+  need = answer_of (rows_refused top bottom 256) slice_length
 
   -- the number of the refusal of a routing call with a limit of columns (256, and 64 in `knee`; over 256 it stands for 256) and a slice of `lent`
   -- entries: the rows', else 8 or 0
@@ -79,8 +53,8 @@ module _ (top bottom : List ℕ) where
   figures = record { density = density top bottom; tracks = tracks top bottom; width = width top bottom }
 
   -- what a routing call answers
-  unfoldable pub answer : (most lent : ℕ) → Routed
-  answer most lent = routed_by (refused most lent) figures
+  unfoldable pub answer : (most lent : ℕ) → Result Figures Refusal
+  answer most lent = answer_of (refused most lent) figures
 
   -- what a routing call leaves in a slice that held `old`: "the first w × (2t + 1) entries of its slice" are the drawing, the others stay;
   -- "A refused call writes to no lent slice"

@@ -12,7 +12,8 @@ use Rattle.sweep.specs.Pairs
 use Rattle.sweep.specs.ThreePin
 use Rattle.sweep.specs.Drawing
 use Rattle.router.specs.Answers
-use Rattle.router.specs.Answers.{layout, answer, number_of, figures_of}
+use Rattle.grid.specs.Refusals.{number_of}
+use Rattle.router.specs.Answers.{layout, answer, figures_of}
 
 -- a channel, the entries of the slice that a routing call is lent, and what it reports: number, d, t, w
 pub record Case : Type 0 where

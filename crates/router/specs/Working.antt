@@ -64,10 +64,6 @@ pub record Ended (t v a b : ℕ) (d s f : List ℕ) : Type 0 where
 abbrev pub WithFree : (s : List ℕ) (F : Free → Action) (r : Action) → Type 0
 WithFree s F r = (t : ℕ) (a : List ℕ) → t ≤ 511 → length a ≡ 512 → Frees t a s → r ≡ F (free_of (tracks_in t a))
 
--- the arrays hold each net's lowest and highest strand on the tracks tr
-abbrev pub LowsAndHighs : (low high tr : List ℕ) → Type 0
-LowsAndHighs low high tr = ByNet (λ v. lowest v tr) low × ByNet (λ v. highest v tr) high
-
 -- the arrays hold the t tracks tr, and each net's lowest and highest strand and how many it has; f is the set of the free tracks
 pub record Holds (t : ℕ) (tr a f low high number : List ℕ) : Type 0 where
   pub fits : t ≤ 511

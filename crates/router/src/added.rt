@@ -4,77 +4,63 @@ ghost use Rattle.grid.specs.Channel.{count};
 ghost use Rattle.sets.specs.Member.{member};
 ghost use Rattle.sweep.specs.Tracks.{clear};
 ghost use Rattle.sweep.specs.Drawing.{remains, added};
-ghost use Rattle.router.specs.Working.{tracks_in, Holds, NetsOnly, Remaining, with_joining};
+ghost use Rattle.router.specs.Working.{NetsOnly, Remaining, with_joining};
+ghost use Rattle.router.specs.Lent.{SameStrands, on, Held};
 
-use crate::{index, nets, writer};
+use crate::lent::{Marks, Strands};
+use crate::{nets, writer};
 use rules::actions;
 
-// Adds the column that joins net v, as column w + 1.
-fn join_net(
-    layout: &mut [u16],
-    tracks: &mut [u16; 512],
-    free: &mut [u64; 8],
-    low: &mut [u16; 257],
-    high: &mut [u16; 257],
-    many: &mut [u16; 257],
-    t: usize,
-    v: u16,
-    w: usize,
-)
-    requires v_nonzero { (0 < v) × (v ≤ 256) × (w ≤ 511) }
-    requires holds { Holds t (tracks_in t tracks.old) tracks.old free.old low.old high.old many.old }
-    requires t_in_bounds { w * (2 * t + 1) + (2 * t + 1) ≤ length layout.old }
-    ensures holds_2 { Holds t (clear v (tracks_in t tracks.old))
-        tracks.new free.new low.new high.new many.new }
-    ensures layout_after { layout.new ≡ with_joining t (tracks_in t tracks.old) v w layout.old }
-{
-    let i = v as usize;
-    let x = actions::join_strands(v, low[i], high[i]);
-    index::drop_net(tracks, free, low, high, many, t, v);
-    writer::write_at(layout, w * (2 * t + 1), tracks, t, x);
+impl Strands<'_> {
+    // Adds the column that joins net v, as column w + 1.
+    fn join_net(&mut self, layout: &mut [u16], t: usize, v: u16, w: usize)
+        requires is_net { (0 < v) × (v ≤ 256) × (w ≤ 511) }
+        requires held { Held t self.old (on t self.old) }
+        requires fits { w * (2 * t + 1) + (2 * t + 1) ≤ length layout.old }
+        ensures net_ended { Held t self.new (clear v (on t self.old)) }
+        ensures drawing { layout.new ≡ with_joining t (on t self.old) v w layout.old }
+        ensures lent { SameStrands self.old self.new }
+    {
+        let i = usize::from(v);
+        let x = actions::join_strands(v, self.low[i], self.high[i]);
+        self.drop_net(v);
+        writer::write_at(layout, w * (2 * t + 1), &self.tracks, t, x);
+    }
+
+    // Adds a column for each net that still has strands, lowest number first; n columns are drawn. The answer is the width.
+    pub(crate) fn finish(&mut self, layout: &mut [u16], marks: &Marks, t: usize, n: usize) -> usize
+        requires few_columns { n ≤ 256 }
+        requires few_added { n + count (remains (on t self.old)) 256 ≤ 511 }
+        requires held { Held t self.old (on t self.old) }
+        requires remaining { Remaining (on t self.old) marks.now.extended.now }
+        requires fits { (n + count (remains (on t self.old)) 256) * (2 * t + 1) ≤ length layout.old }
+        ensures width { result ≡ n + count (remains (on t self.old)) 256 }
+        ensures drawing { layout.new ≡ take (n * (2 * t + 1)) layout.old
+            ++ (added t (on t self.old) 256 ++ drop (result * (2 * t + 1)) layout.old) }
+    {
+        let mut w = n;
+        let mut v = nets::lowest_net(marks.extended);
+        while v != 0 {
+            self.join_net(layout, t, v, w);
+            w += 1;
+            v = nets::next_net(marks.extended, v);
+        }
+        w
+    }
 }
 
-// How many columns there are to add: one for each net of the set.
-pub(crate) fn columns_to_add(extended: &[u64; 8]) -> usize
-    requires { NetsOnly extended.now }
-    ensures { result ≡ count (member extended.now) 256 }
-{
-    let mut k = 0;
-    let mut v = nets::lowest_net(extended);
-    while v != 0 {
-        k += 1;
-        v = nets::next_net(extended, v);
+impl Marks<'_> {
+    // How many columns there are to add: one for each extended net.
+    pub(crate) fn columns_to_add(&self) -> usize
+        requires { NetsOnly self.now.extended.now }
+        ensures { result ≡ count (member self.now.extended.now) 256 }
+    {
+        let mut k = 0;
+        let mut v = nets::lowest_net(self.extended);
+        while v != 0 {
+            k += 1;
+            v = nets::next_net(self.extended, v);
+        }
+        k
     }
-    k
-}
-
-// Adds a column for each net that still has strands, lowest number first; n columns are drawn. The answer is the width.
-pub(crate) fn finish(
-    layout: &mut [u16],
-    tracks: &mut [u16; 512],
-    free: &mut [u64; 8],
-    low: &mut [u16; 257],
-    high: &mut [u16; 257],
-    many: &mut [u16; 257],
-    extended: &[u64; 8],
-    t: usize,
-    n: usize,
-) -> usize
-    requires n_bound { n ≤ 256 }
-    requires tracks_bound { n + count (remains (tracks_in t tracks.old)) 256 ≤ 511 }
-    requires holds { Holds t (tracks_in t tracks.old) tracks.old free.old low.old high.old many.old }
-    requires remaining { Remaining (tracks_in t tracks.old) extended.now }
-    requires t_in_bounds { (n + count (remains (tracks_in t tracks.old)) 256) * (2 * t + 1) ≤ length layout.old }
-    ensures value { result ≡ n + count (remains (tracks_in t tracks.old)) 256 }
-    ensures layout_after { layout.new ≡ take (n * (2 * t + 1)) layout.old
-        ++ (added t (tracks_in t tracks.old) 256 ++ drop (result * (2 * t + 1)) layout.old) }
-{
-    let mut w = n;
-    let mut v = nets::lowest_net(extended);
-    while v != 0 {
-        join_net(layout, tracks, free, low, high, many, t, v, w);
-        w += 1;
-        v = nets::next_net(extended, v);
-    }
-    w
 }

@@ -3,10 +3,11 @@ ghost use Rattle.std.specs.Prelude.{◌≡◌, true, List, ℕ, ◌+◌, ◌*◌
 ghost use Rattle.grid.specs.Channel.{pick};
 ghost use Rattle.sweep.specs.Tracks.{after};
 ghost use Rattle.sweep.specs.Drawing.{move_at, mates_after};
-ghost use Rattle.router.specs.Working.{tracks_in, Reads, RowsAndLasts, Ready, Fitting, FitsAt, FitsFrom, Keeps, Mated, AtGap, DrawnTo};
-ghost use Rattle.router.specs.Working.{forms, OthersTold, PairsSettled, with_column};
+ghost use Rattle.router.specs.Working.{tracks_in, Reads, RowsAndLasts, Fitting, FitsAt, FitsFrom, DrawnTo, forms, OthersTold, PairsSettled, with_column};
+ghost use Rattle.router.specs.Lent.{SameMates, SameSweep, on, Planned, Keeping, Mating, At};
 
-use crate::{index, moves, nets, writer};
+use crate::lent::{Mates, Plan, Strands, Sweep, Tracks};
+use crate::{nets, writer};
 use grid::Family;
 use sweep::{Action, Move};
 
@@ -14,17 +15,13 @@ use sweep::{Action, Move};
 fn forms_pairs(family: Family) -> bool
     ensures { result ≡ forms family }
 {
-    match family {
-        Family::TwoPin => false,
-        Family::ThreePin => true,
-        Family::ManyPin => false,
-    }
+    matches!(family, Family::ThreePin)
 }
 
 // The net of the pin in column c + 1 of a row, 0 for none: past its end there is no pin, and a number over 256 is no net.
 fn net_at(row: &[u16], c: usize) -> u16
-    ensures upper_bound { result ≤ 256 }
-    ensures value { get_or row.now c 0 ≤ 256 → result ≡ get_or row.now c 0 }
+    ensures is_net { result ≤ 256 }
+    ensures pin { get_or row.now c 0 ≤ 256 → result ≡ get_or row.now c 0 }
 {
     if c < row.len() {
         return nets::net_of(row[c]);
@@ -32,169 +29,101 @@ fn net_at(row: &[u16], c: usize) -> u16
     0
 }
 
-// The pairs after column c + 1 with the pins p and q and its move x, where the sweep of the family forms any.
-fn settle_pairs(
-    p: u16,
-    q: u16,
-    c: usize,
-    last: &[u16; 257],
-    many: &[u16; 257],
-    mates: &mut [u16; 257],
-    lone: &mut [u64; 8],
-    family: Family,
-    x: Move,
-)
-    requires { c ≤ 511 }
-    ensures { (top bottom : List ℕ) → get_or top c 0 ≡ p → get_or bottom c 0 ≡ q → RowsAndLasts top bottom last.now
-        → (x.action.ended ≤ 256) × (x.double ≤ 256) × (x.single ≤ 256) → forms family ≡ true
-        → OthersTold many.now mates.old lone.old x.action.ended p q
-        → PairsSettled top bottom c x many.now mates.old mates.new lone.new }
-{
-    if forms_pairs(family) {
-        let k = c as u16 + 1;
-        let y = x.action;
-        pairs::renew(
-            last, many, mates, lone, k, y.ended, p, q, x.double, x.single,
-        );
+impl Mates<'_> {
+    // The pairs after column c + 1 with the pins p and q and its move x, where the sweep of the family forms any, by how many strands the nets have.
+    fn settle(&mut self, plan: &Plan, strands: &Strands, p: u16, q: u16, c: usize, x: Move)
+        requires { c ≤ 511 }
+        ensures settled { (top bottom : List ℕ) → get_or top c 0 ≡ p → get_or bottom c 0 ≡ q → RowsAndLasts top bottom plan.now.last.now
+            → (x.action.ended ≤ 256) × (x.double ≤ 256) × (x.single ≤ 256) → forms plan.now.family ≡ true
+            → OthersTold strands.now.many.now self.old.mates.now self.old.lone.now x.action.ended p q
+            → PairsSettled top bottom c x strands.now.many.now self.old.mates.now self.new.mates.now self.new.lone.now }
+        ensures lent { SameMates self.old self.new }
+    {
+        if forms_pairs(plan.family) {
+            let k = c as u16 + 1;
+            let ended = x.action.ended;
+            let last = plan.last;
+            let many = &*strands.many;
+            let mates = &mut *self.mates;
+            let lone = &mut *self.lone;
+            pairs::renew(last, many, mates, lone, k, ended, p, q, x.double, x.single);
+        }
     }
 }
 
-// Applies the move x of column c + 1 with the pins p and q and marks the nets of the column.
-fn settle(
-    p: u16,
-    q: u16,
-    c: usize,
-    last: &[u16; 257],
-    tracks: &mut [u16; 512],
-    free: &mut [u64; 8],
-    low: &mut [u16; 257],
-    high: &mut [u16; 257],
-    many: &mut [u16; 257],
-    extended: &mut [u64; 8],
-    wide: &mut [u64; 8],
-    mates: &mut [u16; 257],
-    lone: &mut [u64; 8],
-    t: usize,
-    family: Family,
-    x: Move,
-)
-    requires { c ≤ 511 }
-    ensures { (top bottom : List ℕ) → get_or top c 0 ≡ p → get_or bottom c 0 ≡ q → RowsAndLasts top bottom last.now
-        → Keeps last.now t family c (tracks_in t tracks.old) tracks.old free.old low.old
-        high.old many.old extended.old wide.old
-        → Mated family mates.old many.old mates.old lone.old
-        → Fitting top bottom c x (tracks_in t tracks.old)
-        → Keeps last.now t family (c + 1) (after x.action (tracks_in t tracks.old)) tracks.new free.new
-        low.new high.new many.new extended.new wide.new
-        × Mated family (mates_after top bottom c x mates.old) many.new mates.new lone.new }
-{
-    let y = x.action;
-    index::apply(tracks, free, low, high, many, t, y);
-    let k = c as u16 + 1;
-    nets::mark_three(last, many, extended, wide, k, y.ended, p, q, family);
-    settle_pairs(p, q, c, last, many, mates, lone, family, x);
-}
-
-// One column of the sweep without its drawing: chooses the move of column c + 1 with the pins p and q, applies it and marks the nets. The answer is the
-// action. It ends on any arrays; what it promises, it promises of arrays that hold gap c of a channel's sweep.
-fn advance(
-    p: u16,
-    q: u16,
-    c: usize,
-    first: &[u16; 257],
-    last: &[u16; 257],
-    tracks: &mut [u16; 512],
-    free: &mut [u64; 8],
-    low: &mut [u16; 257],
-    high: &mut [u16; 257],
-    many: &mut [u16; 257],
-    extended: &mut [u64; 8],
-    wide: &mut [u64; 8],
-    mates: &mut [u16; 257],
-    lone: &mut [u64; 8],
-    t: usize,
-    family: Family,
-) -> Action
-    requires { (p ≤ 256) × (q ≤ 256) × (c ≤ 511) × (t ≤ 511) }
-    ensures { (top bottom : List ℕ) → get_or top c 0 ≡ p → get_or bottom c 0 ≡ q
-        → Ready top bottom first.now last.now t family → FitsAt t top bottom c
-        → AtGap top bottom last.now t family c tracks.old free.old low.old high.old
-        many.old extended.old wide.old mates.old lone.old
-        → (result ≡ (move_at t top bottom c).action)
-        × AtGap top bottom last.now t family (c + 1) tracks.new free.new low.new high.new
-        many.new extended.new wide.new mates.new lone.new }
-{
-    let x = moves::column_at(
-        p, q, c, first, last, tracks, free, low, high, many, extended, wide, mates, lone, t, family,
-    );
-    settle(
-        p, q, c, last, tracks, free, low, high, many, extended, wide, mates, lone, t, family, x,
-    );
-    x.action
-}
-
 // Draws a column into its part of the layout, which begins at `at`; in a dry run nothing.
-fn draw_column(
-    layout: &mut [u16],
-    at: usize,
-    tracks: &[u16; 512],
-    t: usize,
-    x: Action,
-    drawing: bool,
-)
+fn draw_column(layout: &mut [u16], at: usize, tracks: &Tracks, t: usize, x: Action, drawing: bool)
     requires { (t ≤ 511) × (drawing ≡ true → at + (2 * t + 1) ≤ length layout.old) }
-    ensures { length tracks.now ≡ 512
-        → layout.new ≡ pick drawing (with_column t at x (tracks_in t tracks.now) layout.old) layout.old }
+    ensures { length tracks.now.nets.now ≡ 512
+        → layout.new ≡ pick drawing (with_column t at x (tracks_in t tracks.now.nets.now) layout.old) layout.old }
 {
     if drawing {
         writer::write_at(layout, at, tracks, t, x);
     }
 }
 
-// Goes over the columns from + 1 to `to` and draws them; in a dry run nothing is drawn. It ends on any arrays; what it promises, it promises of rows that read
-// as those of a channel, and of arrays that hold gap `from` of its sweep.
-pub(crate) fn sweep_columns(
-    top: &[u16],
-    bottom: &[u16],
-    layout: &mut [u16],
-    first: &[u16; 257],
-    last: &[u16; 257],
-    tracks: &mut [u16; 512],
-    free: &mut [u64; 8],
-    low: &mut [u16; 257],
-    high: &mut [u16; 257],
-    many: &mut [u16; 257],
-    extended: &mut [u64; 8],
-    wide: &mut [u64; 8],
-    mates: &mut [u16; 257],
-    lone: &mut [u64; 8],
-    t: usize,
-    family: Family,
-    drawing: bool,
-    from: usize,
-    to: usize,
-)
-    requires { (from ≤ to) × (to ≤ 511) × (t ≤ 511) × (drawing ≡ true → to * (2 * t + 1) ≤ length layout.old) }
-    ensures { (tp bt : List ℕ) → Reads top.now tp → Reads bottom.now bt
-        → Ready tp bt first.now last.now t family → FitsFrom t tp bt from to
-        → AtGap tp bt last.now t family from tracks.old free.old low.old high.old
-        many.old extended.old wide.old mates.old lone.old
-        → AtGap tp bt last.now t family to tracks.new free.new low.new high.new
-        many.new extended.new wide.new mates.new lone.new
-        × ((l : List ℕ) → DrawnTo drawing tp bt t from l layout.old → DrawnTo drawing tp bt t to l layout.new) }
-{
-    let each = 2 * t + 1;
-    let mut i = from;
-    let mut at = from * each;
-    while i < to {
-        let p = net_at(top, i);
-        let q = net_at(bottom, i);
-        let x = advance(
-            p, q, i, first, last, tracks, free, low, high, many, extended, wide, mates, lone, t,
-            family,
-        );
-        draw_column(layout, at, tracks, t, x, drawing);
-        at += each;
-        i += 1;
+impl Sweep<'_> {
+    // Applies the move x of column c + 1 with the pins p and q and marks the nets of the column.
+    fn settle(&mut self, p: u16, q: u16, c: usize, x: Move)
+        requires { c ≤ 511 }
+        ensures settled { (top bottom : List ℕ) → get_or top c 0 ≡ p → get_or bottom c 0 ≡ q
+            → RowsAndLasts top bottom self.old.plan.last.now
+            → Keeping self.old.plan c (on self.old.plan.t self.old.strands) self.old
+            → Mating self.old.plan self.old.mates.mates.now self.old
+            → Fitting top bottom c x (on self.old.plan.t self.old.strands)
+            → Keeping self.old.plan (c + 1) (after x.action (on self.old.plan.t self.old.strands)) self.new
+            × Mating self.old.plan (mates_after top bottom c x self.old.mates.mates.now) self.new }
+        ensures lent { SameSweep self.old self.new }
+    {
+        let ended = x.action.ended;
+        self.strands.apply(x.action);
+        self.marks
+            .mark_three(&self.plan, &self.strands, c as u16 + 1, ended, p, q);
+        self.mates.settle(&self.plan, &self.strands, p, q, c, x);
+    }
+
+    // One column of the sweep without its drawing: chooses the move of column c + 1 with the pins p and q, applies it and marks the nets. The answer is the
+    // action. It ends on any arrays; what it promises, it promises of arrays that hold gap c of a channel's sweep.
+    fn advance(&mut self, p: u16, q: u16, c: usize) -> Action
+        requires { (p ≤ 256) × (q ≤ 256) × (c ≤ 511) × (self.old.plan.t ≤ 511) }
+        ensures advanced { (top bottom : List ℕ) → get_or top c 0 ≡ p → get_or bottom c 0 ≡ q
+            → Planned top bottom self.old.plan → FitsAt self.old.plan.t top bottom c
+            → At top bottom self.old.plan c self.old
+            → (result ≡ (move_at self.old.plan.t top bottom c).action) × At top bottom self.old.plan (c + 1) self.new }
+        ensures lent { SameSweep self.old self.new }
+    {
+        let x = self.column_at(p, q, c);
+        self.settle(p, q, c, x);
+        x.action
+    }
+
+    // Goes over the columns from + 1 to `to` and draws them; in a dry run nothing is drawn. It ends on any arrays; what it promises, it promises of rows that
+    // read as those of a channel, and of arrays that hold gap `from` of its sweep.
+    pub(crate) fn columns(
+        &mut self,
+        top: &[u16],
+        bottom: &[u16],
+        layout: &mut [u16],
+        drawing: bool,
+        from: usize,
+        to: usize,
+    )
+        requires { (from ≤ to) × (to ≤ 511) × (self.old.plan.t ≤ 511)
+            × (drawing ≡ true → to * (2 * self.old.plan.t + 1) ≤ length layout.old) }
+        ensures swept { (tp bt : List ℕ) → Reads top.now tp → Reads bottom.now bt
+            → Planned tp bt self.old.plan → FitsFrom self.old.plan.t tp bt from to → At tp bt self.old.plan from self.old
+            → At tp bt self.old.plan to self.new
+            × ((l : List ℕ) → DrawnTo drawing tp bt self.old.plan.t from l layout.old
+            → DrawnTo drawing tp bt self.old.plan.t to l layout.new) }
+        ensures lent { SameSweep self.old self.new }
+    {
+        let t = self.plan.t;
+        let each = 2 * t + 1;
+        for i in from..to {
+            let p = net_at(top, i);
+            let q = net_at(bottom, i);
+            let x = self.advance(p, q, i);
+            draw_column(layout, i * each, &self.strands.tracks, t, x, drawing);
+        }
     }
 }

@@ -1,10 +1,12 @@
 // The tracks in a gap, the set of the free ones and the index of the nets' strands, as an action changes them. Every function here ends on any arrays;
 // what it promises, it promises of arrays that hold what they should.
-ghost use Rattle.std.specs.Prelude.{◌≡◌, ◌+◌, ◌<◌, ◌≤◌, max, get_or, set};
+ghost use Rattle.std.specs.Prelude.{◌≡◌, ℕ, ◌+◌, ◌<◌, ◌≤◌, get_or, set};
 ghost use Rattle.sweep.specs.Tracks.{lesser, clear, give, after};
 ghost use Rattle.sweep.specs.Working.{FreeAt, Applies};
-ghost use Rattle.router.specs.Working.{tracks_in, cleared, NoneBetween, Frees, Among, Ended, Holds, blank};
+ghost use Rattle.router.specs.Working.{cleared, NoneBetween, Frees, Among, Ended, blank};
+ghost use Rattle.router.specs.Lent.{SameTracks, SameStrands, on, Held};
 
+use crate::lent::{Strands, Tracks};
 use sweep::{Action, Gift};
 
 // The set of t free tracks.
@@ -13,88 +15,53 @@ pub(crate) fn all_free(t: usize) -> [u64; 8]
     ensures { Frees t blank result }
 {
     let mut s = sets::empty();
-    let mut i = 0;
-    while i < t {
-        i += 1;
-        sets::insert(&mut s, i);
+    for i in 0..t {
+        sets::insert(&mut s, i + 1);
     }
     s
 }
 
-// Ends the strand on track y, if it is one of the net's.
-fn end_at(tracks: &mut [u16; 512], free: &mut [u64; 8], t: usize, y: usize, net: u16)
-    requires { y ≤ 511 }
-    ensures tracks_after { tracks.new ≡ set tracks.old y (cleared net (get_or tracks.old y 0)) }
-    ensures frees { Among t y y tracks.old free.old → Frees t tracks.new free.new }
-{
-    if tracks[y] == net {
-        tracks[y] = 0;
-        sets::insert(free, y);
+impl Tracks<'_> {
+    // Ends the strand on track y, if it is one of the net's.
+    fn end_at(&mut self, y: usize, net: u16)
+        requires { y ≤ 511 }
+        ensures nets { self.new.nets.now ≡ set self.old.nets.now y (cleared net (get_or self.old.nets.now y 0)) }
+        ensures frees { (t : ℕ) → Among t y y self.old.nets.now self.old.free.now → Frees t self.new.nets.now self.new.free.now }
+        ensures lent { SameTracks self.old self.new }
+    {
+        if self.nets[y] == net {
+            self.nets[y] = 0;
+            sets::insert(self.free, y);
+        }
     }
-}
 
-// Ends the strands of a net on the tracks a to b.
-fn end_between(tracks: &mut [u16; 512], free: &mut [u64; 8], t: usize, a: u16, b: u16, net: u16)
-    requires { b ≤ 511 }
-    ensures { Among t a b tracks.old free.old
-        → Ended t net a b tracks.old tracks.new free.new }
-{
-    let mut y = a as usize;
-    let last = b as usize;
-    while y <= last {
-        end_at(tracks, free, t, y, net);
-        y += 1;
+    // Ends the strands of a net on the tracks a to b.
+    fn end_between(&mut self, a: u16, b: u16, net: u16)
+        requires { b ≤ 511 }
+        ensures ended { (t : ℕ) → Among t a b self.old.nets.now self.old.free.now
+            → Ended t net a b self.old.nets.now self.new.nets.now self.new.free.now }
+        ensures lent { SameTracks self.old self.new }
+    {
+        for y in usize::from(a)..usize::from(b) + 1 {
+            self.end_at(y, net);
+        }
     }
-}
 
-// Ends the strands of a net whose lowest is on track a, the highest on track b, and that has so many.
-fn end_strands(
-    tracks: &mut [u16; 512],
-    free: &mut [u64; 8],
-    t: usize,
-    a: u16,
-    b: u16,
-    number: u16,
-    net: u16,
-)
-    requires { (a ≤ 511) × (b ≤ 511) }
-    ensures { Among t a b tracks.old free.old → 0 < net → (number ≤ 2 → NoneBetween net a b tracks.old)
-        → Ended t net a b tracks.old tracks.new free.new }
-{
-    if number <= 2 {
-        end_at(tracks, free, t, a as usize, net);
-        end_at(tracks, free, t, b as usize, net);
-        return;
+    // Ends the strands of a net whose lowest is on track a, the highest on track b, and that has so many.
+    fn end_strands(&mut self, a: u16, b: u16, number: u16, net: u16)
+        requires { (a ≤ 511) × (b ≤ 511) }
+        ensures ended { (t : ℕ) → Among t a b self.old.nets.now self.old.free.now → 0 < net
+            → (number ≤ 2 → NoneBetween net a b self.old.nets.now)
+            → Ended t net a b self.old.nets.now self.new.nets.now self.new.free.now }
+        ensures lent { SameTracks self.old self.new }
+    {
+        if number <= 2 {
+            self.end_at(usize::from(a), net);
+            self.end_at(usize::from(b), net);
+            return;
+        }
+        self.end_between(a, b, net);
     }
-    end_between(tracks, free, t, a, b, net);
-}
-
-// Ends all strands of a net.
-pub(crate) fn drop_net(
-    tracks: &mut [u16; 512],
-    free: &mut [u64; 8],
-    low: &mut [u16; 257],
-    high: &mut [u16; 257],
-    many: &mut [u16; 257],
-    t: usize,
-    net: u16,
-)
-    ensures { net ≤ 256
-        → Holds t (tracks_in t tracks.old) tracks.old free.old low.old high.old many.old
-        → Holds t (clear net (tracks_in t tracks.old))
-        tracks.new free.new low.new high.new many.new }
-{
-    if (net == 0) | (256 < net) {
-        return;
-    }
-    let v = net as usize;
-    if many[v] == 0 {
-        return;
-    }
-    end_strands(tracks, free, t, low[v] % 512, high[v] % 512, many[v], net);
-    low[v] = 0;
-    high[v] = 0;
-    many[v] = 0;
 }
 
 // The lower of two tracks, where 0 is none.
@@ -107,66 +74,64 @@ fn lesser_of(x: u16, y: u16) -> u16
     if y == 0 {
         return x;
     }
-    if x < y { x } else { y }
+    x.min(y)
 }
 
-// The higher of two tracks.
-pub(crate) fn greater_of(x: u16, y: u16) -> u16
-    ensures { result ≡ max x y }
-{
-    if x < y { y } else { x }
-}
-
-// Gives a free track to a net; nothing where either is 0.
-fn add_strand(
-    tracks: &mut [u16; 512],
-    free: &mut [u64; 8],
-    low: &mut [u16; 257],
-    high: &mut [u16; 257],
-    many: &mut [u16; 257],
-    t: usize,
-    g: Gift,
-)
-    ensures { g.net ≤ 256 → FreeAt g.track (tracks_in t tracks.old)
-        → Holds t (tracks_in t tracks.old) tracks.old free.old low.old high.old many.old
-        → Holds t (give g.track g.net (tracks_in t tracks.old))
-        tracks.new free.new low.new high.new many.new }
-{
-    let track = g.track;
-    let net = g.net;
-    if track == 0 {
-        return;
+impl Strands<'_> {
+    // Ends all strands of a net.
+    pub(crate) fn drop_net(&mut self, net: u16)
+        ensures held { (t : ℕ) → net ≤ 256 → Held t self.old (on t self.old) → Held t self.new (clear net (on t self.old)) }
+        ensures lent { SameStrands self.old self.new }
+    {
+        if (net == 0) | (256 < net) {
+            return;
+        }
+        let v = usize::from(net);
+        let number = self.many[v];
+        if number == 0 {
+            return;
+        }
+        let a = self.low[v] % 512;
+        let b = self.high[v] % 512;
+        self.tracks.end_strands(a, b, number, net);
+        self.low[v] = 0;
+        self.high[v] = 0;
+        self.many[v] = 0;
     }
-    if (net == 0) | (256 < net) {
-        return;
-    }
-    let y = (track % 512) as usize;
-    let v = net as usize;
-    tracks[y] = net;
-    sets::remove(free, y);
-    low[v] = lesser_of(low[v], track);
-    high[v] = greater_of(high[v], track);
-    many[v] = many[v] % 512 + 1;
-}
 
-// The tracks after an action.
-pub(crate) fn apply(
-    tracks: &mut [u16; 512],
-    free: &mut [u64; 8],
-    low: &mut [u16; 257],
-    high: &mut [u16; 257],
-    many: &mut [u16; 257],
-    t: usize,
-    x: Action,
-)
-    ensures { Applies x (tracks_in t tracks.old)
-        → Holds t (tracks_in t tracks.old) tracks.old free.old low.old high.old many.old
-        → Holds t (after x (tracks_in t tracks.old))
-        tracks.new free.new low.new high.new many.new }
-{
-    drop_net(tracks, free, low, high, many, t, x.ended);
-    drop_net(tracks, free, low, high, many, t, x.closed);
-    add_strand(tracks, free, low, high, many, t, x.gift1);
-    add_strand(tracks, free, low, high, many, t, x.gift2);
-    add_strand(tracks, free, low, high, many, t, x.gift3);
+    // Gives a free track to a net; nothing where either is 0.
+    fn add_strand(&mut self, g: Gift)
+        ensures held { (t : ℕ) → g.net ≤ 256 → FreeAt g.track (on t self.old)
+            → Held t self.old (on t self.old) → Held t self.new (give g.track g.net (on t self.old)) }
+        ensures lent { SameStrands self.old self.new }
+    {
+        let track = g.track;
+        let net = g.net;
+        if track == 0 {
+            return;
+        }
+        if (net == 0) | (256 < net) {
+            return;
+        }
+        let y = usize::from(track % 512);
+        let v = usize::from(net);
+        self.tracks.nets[y] = net;
+        sets::remove(self.tracks.free, y);
+        self.low[v] = lesser_of(self.low[v], track);
+        self.high[v] = self.high[v].max(track);
+        self.many[v] = self.many[v] % 512 + 1;
+    }
+
+    // The tracks after an action.
+    pub(crate) fn apply(&mut self, x: Action)
+        ensures held { (t : ℕ) → Applies x (on t self.old) → Held t self.old (on t self.old)
+            → Held t self.new (after x (on t self.old)) }
+        ensures lent { SameStrands self.old self.new }
+    {
+        self.drop_net(x.ended);
+        self.drop_net(x.closed);
+        self.add_strand(x.gift1);
+        self.add_strand(x.gift2);
+        self.add_strand(x.gift3);
+    }
 }

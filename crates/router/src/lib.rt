@@ -5,6 +5,7 @@ mod added;
 mod choose;
 mod columns;
 mod index;
+mod lent;
 mod moves;
 mod nets;
 mod pins;
@@ -13,15 +14,17 @@ mod writer;
 
 ghost use Rattle.std.specs.Prelude.{◌≡◌, true, ◌+◌, ◌*◌, ◌/◌, ◌-◌, ◌≤◌, ltb, length, drop, ◌++◌};
 ghost use Rattle.grid.specs.Channel.{pick, tracks_of, rows_refused};
-ghost use Rattle.grid.specs.Refusals.{if_accepted};
+ghost use Rattle.grid.specs.Refusals.{if_accepted, number_of};
 ghost use Rattle.router.specs.Promise.{Solves};
 ghost use Rattle.sweep.specs.Drawing.{width};
 ghost use Rattle.sweep.specs.Drawing.{layout as layout_of};
-ghost use Rattle.router.specs.Answers.{number_of, figures_of, no_figures, length_number_of, entries_of};
+ghost use Rattle.router.specs.Answers.{figures_of, no_figures, entries_of};
 ghost use Rattle.router.specs.Answers.{formula_length, slice_length, need as need_of, refused, figures as figures_by, answer, written};
-ghost use Rattle.router.specs.Working.{Ready, EachFits, blank, no_nets};
+ghost use Rattle.router.specs.Working.{EachFits, blank, no_nets};
+ghost use Rattle.router.specs.Lent.{Planned};
 
-use grid::{Family, RowCheck};
+use crate::lent::{Marks, Mates, Plan, Strands, Sweep, Tracks};
+use grid::{Family, Refusal};
 
 // The figures of a drawn channel.
 #[derive(Clone, Copy)]
@@ -29,20 +32,6 @@ pub struct Figures {
     pub density: usize,
     pub tracks: usize,
     pub width: usize,
-}
-
-// What a routing call answers: the figures of the drawing, or the number of the refusal.
-#[derive(Clone, Copy)]
-pub enum Routed {
-    Drawn(Figures),
-    Refused(u16),
-}
-
-// What the call that states the slice length answers: the entries, or the number of the refusal.
-#[derive(Clone, Copy)]
-pub enum Length {
-    Entries(usize),
-    Refused(u16),
 }
 
 // A table with no track taken, and one with no net.
@@ -62,23 +51,21 @@ pub(crate) fn no_nets() -> [u16; 257]
 fn sweep_channel(
     top: &[u16],
     bottom: &[u16],
+    plan: &Plan,
     layout: &mut [u16],
-    first: &[u16; 257],
-    last: &[u16; 257],
-    t: usize,
-    family: Family,
     drawing: bool,
 ) -> usize
-    requires ready { Ready top.now bottom.now first.now last.now t family }
-    requires each_fits { EachFits t top.now bottom.now }
-    requires bottom_in_bounds { width t top.now bottom.now ≤ length top.now + t / 2 }
-    requires t_in_bounds { drawing ≡ true → width t top.now bottom.now * (2 * t + 1) ≤ length layout.old }
-    ensures value { result ≡ width t top.now bottom.now }
-    ensures layout_after { layout.new ≡ pick drawing (layout_of t top.now bottom.now ++ drop (result * (2 * t + 1)) layout.old)
-        layout.old }
+    requires planned { Planned top.now bottom.now plan.now }
+    requires each_fits { EachFits plan.now.t top.now bottom.now }
+    requires narrow { width plan.now.t top.now bottom.now ≤ length top.now + plan.now.t / 2 }
+    requires long_enough { drawing ≡ true → width plan.now.t top.now bottom.now * (2 * plan.now.t + 1) ≤ length layout.old }
+    ensures width { result ≡ width plan.now.t top.now bottom.now }
+    ensures drawing { layout.new ≡ pick drawing (layout_of plan.now.t top.now bottom.now
+        ++ drop (result * (2 * plan.now.t + 1)) layout.old) layout.old }
 {
-    let mut tracks = no_tracks();
-    let mut free = index::all_free(t);
+    let n = top.len();
+    let mut nets = no_tracks();
+    let mut free = index::all_free(plan.t);
     let mut low = no_nets();
     let mut high = no_nets();
     let mut many = no_nets();
@@ -86,42 +73,32 @@ fn sweep_channel(
     let mut wide = sets::empty();
     let mut mates = no_nets();
     let mut lone = sets::empty();
-    let n = top.len();
-    columns::sweep_columns(
-        top,
-        bottom,
-        layout,
-        first,
-        last,
-        &mut tracks,
-        &mut free,
-        &mut low,
-        &mut high,
-        &mut many,
-        &mut extended,
-        &mut wide,
-        &mut mates,
-        &mut lone,
-        t,
-        family,
-        drawing,
-        0,
-        n,
-    );
+    let tracks = Tracks {
+        nets: &mut nets,
+        free: &mut free,
+    };
+    let sweep = &mut Sweep {
+        plan: *plan,
+        strands: Strands {
+            tracks,
+            low: &mut low,
+            high: &mut high,
+            many: &mut many,
+        },
+        marks: Marks {
+            extended: &mut extended,
+            wide: &mut wide,
+        },
+        mates: Mates {
+            mates: &mut mates,
+            lone: &mut lone,
+        },
+    };
+    sweep.columns(top, bottom, layout, drawing, 0, n);
     if drawing {
-        return added::finish(
-            layout,
-            &mut tracks,
-            &mut free,
-            &mut low,
-            &mut high,
-            &mut many,
-            &extended,
-            t,
-            n,
-        );
+        return sweep.strands.finish(layout, &sweep.marks, plan.t, n);
     }
-    let k = added::columns_to_add(&extended);
+    let k = sweep.marks.columns_to_add();
     n + k
 }
 
@@ -133,14 +110,8 @@ fn tracks_of(family: Family, d: usize) -> usize
     match family {
         Family::TwoPin => d,
         Family::ThreePin => 3 * d / 2,
-        Family::ManyPin => less_one(2 * d),
+        Family::ManyPin => (2 * d).saturating_sub(1),
     }
-}
-
-fn less_one(n: usize) -> usize
-    ensures { result ≡ n - 1 }
-{
-    if n == 0 { 0 } else { n - 1 }
 }
 
 // Document 01's slice length for n columns on t tracks.
@@ -152,97 +123,85 @@ pub(crate) fn formula_length(n: usize, t: usize) -> usize
 }
 
 // The slice length that the drawing of a channel takes, by a dry run.
-fn slice_length(
-    top: &[u16],
-    bottom: &[u16],
-    first: &[u16; 257],
-    last: &[u16; 257],
-    t: usize,
-    family: Family,
-) -> usize
-    requires ready { Ready top.now bottom.now first.now last.now t family }
-    requires each_fits { EachFits t top.now bottom.now }
-    requires bottom_in_bounds { width t top.now bottom.now ≤ length top.now + t / 2 }
-    ensures { result ≡ width t top.now bottom.now * (2 * t + 1) }
+fn slice_length(top: &[u16], bottom: &[u16], plan: &Plan) -> usize
+    requires planned { Planned top.now bottom.now plan.now }
+    requires each_fits { EachFits plan.now.t top.now bottom.now }
+    requires narrow { width plan.now.t top.now bottom.now ≤ length top.now + plan.now.t / 2 }
+    ensures { result ≡ width plan.now.t top.now bottom.now * (2 * plan.now.t + 1) }
 {
     let mut nothing = [0u16; 1];
-    let w = sweep_channel(top, bottom, &mut nothing, first, last, t, family, false);
-    w * (2 * t + 1)
+    let w = sweep_channel(top, bottom, plan, &mut nothing, false);
+    w * (2 * plan.t + 1)
 }
 
 // Whether a slice of `lent` entries is too short for the drawing. One of the formula's length never is, and costs no dry run.
-fn is_short(
-    lent: usize,
-    top: &[u16],
-    bottom: &[u16],
-    first: &[u16; 257],
-    last: &[u16; 257],
-    t: usize,
-    family: Family,
-) -> bool
-    requires ready { Ready top.now bottom.now first.now last.now t family }
-    requires each_fits { EachFits t top.now bottom.now }
-    requires bottom_in_bounds { width t top.now bottom.now ≤ length top.now + t / 2 }
-    ensures { result ≡ ltb lent (width t top.now bottom.now * (2 * t + 1)) }
+fn is_short(lent: usize, top: &[u16], bottom: &[u16], plan: &Plan) -> bool
+    requires planned { Planned top.now bottom.now plan.now }
+    requires each_fits { EachFits plan.now.t top.now bottom.now }
+    requires narrow { width plan.now.t top.now bottom.now ≤ length top.now + plan.now.t / 2 }
+    ensures { result ≡ ltb lent (width plan.now.t top.now bottom.now * (2 * plan.now.t + 1)) }
 {
-    let enough = formula_length(top.len(), t);
+    let enough = formula_length(top.len(), plan.t);
     if enough <= lent {
         return false;
     }
-    let needed = slice_length(top, bottom, first, last, t, family);
+    let needed = slice_length(top, bottom, plan);
     lent < needed
 }
 
 // The slice length that a routing call needs for a channel.
-pub fn need(top: &[u16], bottom: &[u16]) -> Length
+pub fn need(top: &[u16], bottom: &[u16]) -> Result<usize, Refusal>
     ensures answer { result ≡ need_of top.now bottom.now }
-    ensures number { length_number_of result ≡ rows_refused top.now bottom.now 256 }
-    ensures entries { entries_of result ≡ if_accepted (length_number_of result) (slice_length top.now bottom.now) 0 }
+    ensures number { number_of result ≡ rows_refused top.now bottom.now 256 }
+    ensures entries { entries_of result ≡ if_accepted (number_of result) (slice_length top.now bottom.now) 0 }
 {
-    let mut first = no_nets();
-    let mut last = no_nets();
-    let mut pins = no_nets();
-    let r = grid::net_facts(top, bottom, 256, &mut first, &mut last, &mut pins);
-    let RowCheck::Fit(s) = r else {
-        return Length::Refused(grid::number_of(r));
+    let facts = grid::net_facts(top, bottom, 256)?;
+    let t = tracks_of(facts.size.family, facts.size.density);
+    let plan = Plan {
+        first: &facts.first,
+        last: &facts.last,
+        t,
+        family: facts.size.family,
     };
-    let family = s.family;
-    let t = tracks_of(family, s.density);
-    Length::Entries(slice_length(top, bottom, &first, &last, t, family))
+    Ok(slice_length(top, bottom, &plan))
 }
 
 // Routes a channel: its drawing goes to the front of the layout, and what stands behind it stays. A refused call leaves the layout as it is. `most` is
 // the largest number of columns; over 256 it stands for 256.
-pub fn route_within(top: &[u16], bottom: &[u16], most: usize, layout: &mut [u16]) -> Routed
+pub fn route_within(
+    top: &[u16],
+    bottom: &[u16],
+    most: usize,
+    layout: &mut [u16],
+) -> Result<Figures, Refusal>
     ensures answer { result ≡ answer top.now bottom.now most (length layout.old) }
     ensures drawing { layout.new ≡ written top.now bottom.now most layout.old }
     ensures solution { number_of result ≡ 0 → Solves top.now bottom.now layout.new (figures_of result) }
     ensures number { number_of result ≡ refused top.now bottom.now most (length layout.old) }
     ensures figures { figures_of result ≡ if_accepted (number_of result) (figures_by top.now bottom.now) no_figures }
 {
-    let mut first = no_nets();
-    let mut last = no_nets();
-    let mut pins = no_nets();
-    let r = grid::net_facts(top, bottom, most, &mut first, &mut last, &mut pins);
-    let RowCheck::Fit(s) = r else {
-        return Routed::Refused(grid::number_of(r));
+    let facts = grid::net_facts(top, bottom, most)?;
+    let t = tracks_of(facts.size.family, facts.size.density);
+    let plan = Plan {
+        first: &facts.first,
+        last: &facts.last,
+        t,
+        family: facts.size.family,
     };
-    let family = s.family;
-    let t = tracks_of(family, s.density);
-    if is_short(layout.len(), top, bottom, &first, &last, t, family) {
-        return Routed::Refused(8);
+    if is_short(layout.len(), top, bottom, &plan) {
+        return Err(Refusal::LayoutTooShort);
     }
-    let w = sweep_channel(top, bottom, layout, &first, &last, t, family, true);
+    let w = sweep_channel(top, bottom, &plan, layout, true);
     let figures = Figures {
-        density: s.density,
+        density: facts.size.density,
         tracks: t,
         width: w,
     };
-    Routed::Drawn(figures)
+    Ok(figures)
 }
 
 // Routes a channel of up to 256 columns.
-pub fn route(top: &[u16], bottom: &[u16], layout: &mut [u16]) -> Routed
+pub fn route(top: &[u16], bottom: &[u16], layout: &mut [u16]) -> Result<Figures, Refusal>
     ensures answer { result ≡ answer top.now bottom.now 256 (length layout.old) }
     ensures drawing { layout.new ≡ written top.now bottom.now 256 layout.old }
     ensures solution { number_of result ≡ 0 → Solves top.now bottom.now layout.new (figures_of result) }

@@ -1,12 +1,13 @@
-// One column of a channel of two-pin nets at a time, on arrays that the caller holds. Every function here ends on any arrays; what it promises, it promises
-// of arrays that stand for a channel.
+// One column of a channel of two-pin nets at a time, on arrays that the caller holds and lends one by one, as C passes them. Every function here ends on any
+// arrays; what it promises, it promises of arrays that stand for a channel.
 ghost use Rattle.std.specs.Prelude.{◌≡◌, true, List, ℕ, ◌+◌, ◌*◌, ◌<◌, ◌≤◌, length};
 ghost use Rattle.sweep.specs.Drawing.{width};
 ghost use Rattle.router.specs.Answers.{formula_length};
 ghost use Rattle.router.specs.Working.{DrawnTo};
 ghost use Rattle.router.specs.State.{Standing, Begun};
 
-use crate::{columns, index};
+use crate::index;
+use crate::lent::{Marks, Mates, Plan, Strands, Sweep, Tracks};
 use grid::Family;
 
 // Document 01's slice length for n columns on t tracks; 0 where the numbers are no channel's.
@@ -73,25 +74,28 @@ pub fn draw_next(
     let mut wide = sets::empty();
     let mut mates = crate::no_nets();
     let mut lone = sets::empty();
-    columns::sweep_columns(
-        top,
-        bottom,
-        layout,
-        first,
-        last,
-        tracks,
-        free,
-        low,
-        high,
-        many,
-        extended,
-        &mut wide,
-        &mut mates,
-        &mut lone,
-        t,
-        Family::TwoPin,
-        true,
-        c,
-        c + 1,
-    );
+    let tracks = Tracks { nets: tracks, free };
+    let mut sweep = Sweep {
+        plan: Plan {
+            first,
+            last,
+            t,
+            family: Family::TwoPin,
+        },
+        strands: Strands {
+            tracks,
+            low,
+            high,
+            many,
+        },
+        marks: Marks {
+            extended,
+            wide: &mut wide,
+        },
+        mates: Mates {
+            mates: &mut mates,
+            lone: &mut lone,
+        },
+    };
+    sweep.columns(top, bottom, layout, true, c, c + 1);
 }

@@ -128,6 +128,7 @@ pub fn join_strands(v: u16, low: u16, high: u16) -> Action
 }
 
 // What a column without pins does: the net of rule 2 is joined if it has no later pins, else all runs straight.
+#[tactic(auto, unfolding(sweep::specs::Working::join_alone))]
 pub fn join_alone(n: Joint) -> Action
     ensures { result ≡ join_alone n }
 {
@@ -195,6 +196,7 @@ pub fn both_join(a: Pin, b: Pin) -> Action
     }
 }
 
+#[tactic(auto, unfolding(sweep::specs::Rules::both_end))]
 pub fn both_end(a: Pin, b: Pin) -> Action
     ensures { result ≡ both_end a b }
 {

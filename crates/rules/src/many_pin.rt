@@ -20,6 +20,7 @@ pub(crate) fn go_direct(a: Pin, b: Pin, q: u16, p: u16) -> Action
 }
 
 // A continuing top net opposite a starting one, or opposite a continuing one where neither has two strands.
+#[tactic(auto, unfolding(sweep::specs::ManyPin::top_continues))]
 pub(crate) fn top_continues(a: Pin, b: Pin, f: Free) -> Action
     ensures { result ≡ top_continues a b f }
 {
@@ -39,6 +40,7 @@ pub(crate) fn top_continues(a: Pin, b: Pin, f: Free) -> Action
     )
 }
 
+#[tactic(auto, unfolding(sweep::specs::ManyPin::bottom_continues))]
 pub(crate) fn bottom_continues(a: Pin, b: Pin, f: Free) -> Action
     ensures { result ≡ bottom_continues a b f }
 {
@@ -65,6 +67,7 @@ fn track_if_more(many: u16, y: u16) -> u16
     if many == 1 { 0 } else { y }
 }
 
+#[tactic(auto, unfolding(sweep::specs::ManyPin::both_continue))]
 fn both_continue(a: Pin, b: Pin, f: Free) -> Action
     ensures { result ≡ both_continue a b f }
 {
@@ -96,10 +99,10 @@ fn both_continue(a: Pin, b: Pin, f: Free) -> Action
 pub(crate) fn kind_number(kind: u16) -> u16
     ensures { result ≡ min kind 3 }
 {
-    if kind < 3 { kind } else { 3 }
+    kind.min(3)
 }
 
-// What a column of a many-pin channel does by its pair of kinds, where rules 1 and 2 do not fit.
+// What a column of a many-pin channel does by its pair of kinds, where rules 1 and 2 do not fit. The customer asks for a match on a number made of the two.
 fn kinds_many(a: Pin, b: Pin, f: Free) -> Action
     ensures { result ≡ by_kinds a b f (kind_of a.kind) (kind_of b.kind) }
 {
@@ -140,6 +143,7 @@ fn both_pins(last: u16, a: Pin, f: Free, n: Joint, later: bool) -> Action
 }
 
 // What a column does, also one without pins. The last row is t + 1; `later` tells whether the top pin's net has later pins.
+#[tactic(auto, unfolding(sweep::specs::ManyPin::choose_many))]
 pub fn choose_many(last: u16, a: Pin, b: Pin, f: Free, n: Joint, later: bool) -> Action
     ensures { (t : ℕ) → last ≡ t + 1 → result ≡ pick (no_pins a b) (join_alone n) (choose_many t a b f n later) }
 {

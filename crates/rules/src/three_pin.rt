@@ -54,6 +54,7 @@ fn reduce(d: Double, a: u16, b: u16, x: u16, y: u16, z: u16) -> Action
 }
 
 // The bottom net, d and the top net leave on the lowest, the middle and the highest of d's two tracks and free track y.
+#[tactic(auto, unfolding(sweep::specs::ThreePin::three_way))]
 fn three_way(d: Double, y: u16, a: u16, b: u16) -> Action
     ensures { result ≡ three_way d y a b }
 {
@@ -67,6 +68,7 @@ fn three_way(d: Double, y: u16, a: u16, b: u16) -> Action
 }
 
 // Two pins that end their nets.
+#[tactic(auto, unfolding(sweep::specs::ThreePin::either_ends))]
 fn either_ends(a: Pin, b: Pin) -> Action
     ensures { result ≡ either_ends a b }
 {
@@ -80,6 +82,7 @@ fn either_ends(a: Pin, b: Pin) -> Action
 }
 
 // Two continuing pins, whose nets end at the columns ea and eb.
+#[tactic(auto, unfolding(sweep::specs::ThreePin::both_go_on))]
 fn both_go_on(a: Pin, b: Pin, ea: u16, eb: u16, f: Free) -> Move
     ensures { result ≡ both_go_on a b ea eb f }
 {
@@ -100,6 +103,7 @@ fn paired_with(m: Double, d: Double, action: Action) -> Move
 }
 
 // Only starting pins: one, or two of two nets.
+#[tactic(auto, unfolding(sweep::specs::ThreePin::top_starts))]
 fn top_starts(a: Pin, b: Pin, f: Free, d: Double, m: Double) -> Move
     ensures { result ≡ top_starts a b f d m }
 {
@@ -109,6 +113,7 @@ fn top_starts(a: Pin, b: Pin, f: Free, d: Double, m: Double) -> Move
     paired_with(m, d, reduce(d, a.net, 0, d.low, d.low, d.high))
 }
 
+#[tactic(auto, unfolding(sweep::specs::ThreePin::bottom_starts))]
 fn bottom_starts(a: Pin, b: Pin, f: Free, d: Double, m: Double) -> Move
     ensures { result ≡ bottom_starts a b f d m }
 {
@@ -118,6 +123,7 @@ fn bottom_starts(a: Pin, b: Pin, f: Free, d: Double, m: Double) -> Move
     paired_with(m, d, reduce(d, 0, b.net, d.low, d.high, d.high))
 }
 
+#[tactic(auto, unfolding(sweep::specs::ThreePin::both_start))]
 fn both_start(a: Pin, b: Pin, f: Free, d: Double, m: Double) -> Move
     ensures { result ≡ both_start a b f d m }
 {
@@ -135,6 +141,7 @@ fn beside(d: Double, m: Double) -> Double
 }
 
 // A continuing top pin, whose net ends at column ea, opposite a starting one; e is the double net beside it.
+#[tactic(auto, unfolding(sweep::specs::ThreePin::top_goes_on))]
 fn top_goes_on(a: Pin, b: Pin, f: Free, e: Double, ea: u16) -> Move
     ensures { result ≡ top_goes_on a b f e ea }
 {
@@ -147,6 +154,7 @@ fn top_goes_on(a: Pin, b: Pin, f: Free, e: Double, ea: u16) -> Move
     pairing(many_pin::top_continues(a, b, f), e.net, a.net)
 }
 
+#[tactic(auto, unfolding(sweep::specs::ThreePin::bottom_goes_on))]
 fn bottom_goes_on(a: Pin, b: Pin, f: Free, e: Double, eb: u16) -> Move
     ensures { result ≡ bottom_goes_on a b f e eb }
 {
@@ -159,7 +167,7 @@ fn bottom_goes_on(a: Pin, b: Pin, f: Free, e: Double, eb: u16) -> Move
     pairing(many_pin::bottom_continues(a, b, f), e.net, b.net)
 }
 
-// What a column of a three-pin channel does by its pair of kinds, where rule 2 does not fit.
+// What a column of a three-pin channel does by its pair of kinds, where rule 2 does not fit; a match on a number, as in many_pin.rt.
 fn kinds_three(a: Pin, b: Pin, ea: u16, eb: u16, f: Free, d: Double, m: Double) -> Move
     ensures { result ≡ by_kinds a b ea eb f no_joint d m (kind_of a.kind) (kind_of b.kind) }
 {
@@ -183,7 +191,7 @@ fn kinds_three(a: Pin, b: Pin, ea: u16, eb: u16, f: Free, d: Double, m: Double) 
     }
 }
 
-// Whether rule 2 fits two kinds where a net is extended: there is a pin, and none ends its net.
+// Whether rule 2 fits two kinds where a net is extended: there is a pin, and none ends its net. By their numbers, as the law of rule 2 says it.
 fn may_join(k: u16, l: u16) -> bool
     ensures { result ≡ may_join k l }
 {

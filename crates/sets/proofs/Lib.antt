@@ -1,4 +1,5 @@
--- `Places`: a number's word and bit by shift and mask. `Digits`: the binary digits of a word after shifts and bitwise operations. `Members`: what the calls store and find, as members.
-pub mod Places
+-- `Digits`: the binary digits of a word after shifts and bitwise operations. `Places`: word and bit of a number. `Members`: what the calls store and find, as
+-- members.
 pub mod Digits
+pub mod Places
 pub mod Members

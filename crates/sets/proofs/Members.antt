@@ -53,18 +53,18 @@ module _ (s : List ℕ) (k : ℕ) (l : k / 64 < length s) where
         other = put_other s k (bit_and x m) l (λ i h n. and_digit x m i ∙ omega (arith, digit_lt x i, not_digit 64 (2 ^ b) i (pow-lt lt) h, pow_digit_other b i n));
       }
 
--- the same as the machine computes them, at the word w and the bit b of k
+-- the same as the machine computes them, at a number below 512
 shifted : (b : ℕ) → b < 64 → (1 * 2 ^ b) % 2 ^ 64 ≡ 2 ^ b
 shifted b l = ap (λ (x : ℕ). x % 2 ^ 64) (one-mul (2 ^ b)) ∙ mod-eq_of_lt (pow-lt l)
 
-module _ (s : List ℕ) (k w b x : ℕ) (l : length s ≡ 8) (h : k < 512) (e : w ≡ k / 64) (f : b ≡ k % 64) (g : x ≡ get_or s w 0) where
+module _ (s : List ℕ) (k : ℕ) (l : length s ≡ 8) (h : k < 512) where
   -- a store of a word with k's bit set
-  pub inserted_by : Put s k true (set s w (bit_or x ((1 * 2 ^ b) % 2 ^ 64)))
-  inserted_by = rw (shifted b (omega arith), g, e, f) (inserted s k (omega arith))
+  pub inserted_by : Put s k true (set s (k / 64) (bit_or (get_or s (k / 64) 0) ((1 * 2 ^ (k % 64)) % 2 ^ 64)))
+  inserted_by = rw (shifted (k % 64) (omega arith)) (inserted s k (omega arith))
 
   -- a store of a word with k's bit cleared
-  pub removed_by : Put s k false (set s w (bit_and x ((2 ^ 64 - 1) - (1 * 2 ^ b) % 2 ^ 64)))
-  removed_by = rw (shifted b (omega arith), g, e, f) (removed s k (omega arith))
+  pub removed_by : Put s k false (set s (k / 64) (bit_and (get_or s (k / 64) 0) ((2 ^ 64 - 1) - (1 * 2 ^ (k % 64)) % 2 ^ 64)))
+  removed_by = rw (shifted (k % 64) (omega arith)) (removed s k (omega arith))
 
 pub get_or_zeros : (n i : ℕ) → get_or (replicate {A = ℕ} n 0) i 0 ≡ 0
 get_or_zeros zero i = refl
@@ -127,26 +127,27 @@ lower {s} l h o = record { low = omega arith; high = o.high; found = o.found; be
 pub nothing : {s : List ℕ} {a : ℕ} → a ≤ 512 → Clear s a 512 → LowestFrom s a 512
 nothing l h = record { low = l; high = omega arith; found = λ p. absurd (omega arith); below = h }
 
--- a whole word, x
-module _ (s : List ℕ) (w x : ℕ) (g : x ≡ get_or s w 0) where
-  whole : get_or s w 0 / 2 ^ 0 ≡ x
-  whole = div-one (get_or s w 0) ∙ sym g
+-- a whole word
+module _ (s : List ℕ) (w : ℕ) where
+  whole : get_or s w 0 / 2 ^ 0 ≡ get_or s w 0
+  whole = div-one (get_or s w 0)
 
-  pub word_none : x ≡ 0 → Clear s (w * 64) ((w + 1) * 64)
+  pub word_none : get_or s w 0 ≡ 0 → Clear s (w * 64) ((w + 1) * 64)
   word_none e k a b = rest_none s w 0 (omega arith) (whole ∙ e) k (omega arith) (omega arith)
 
-  pub word_some : x < 2 ^ 64 → 0 < x → w < 8 → LowestFrom s (w * 64) (w * 64 + count_trailing_zeros 64 x)
-  word_some f p h = rw (whole, add-zero) at (rest_some s w 0 (omega arith) (rw g at f) (rw (sym whole) at p) h)
+  pub word_some : get_or s w 0 < 2 ^ 64 → 0 < get_or s w 0 → w < 8 → LowestFrom s (w * 64) (w * 64 + count_trailing_zeros 64 (get_or s w 0))
+  word_some f p h = rw (whole, add-zero) at (rest_some s w 0 (omega arith) f (rw (sym whole) at p) h)
 
--- what is left of k's word, x, above k
-module _ (s : List ℕ) (k w b x : ℕ) (h : k < 512) (e : w ≡ k / 64) (f : b ≡ k % 64) (g : x ≡ get_or s w 0) where
-  left : get_or s w 0 / 2 ^ (b + 1) ≡ x / 2 ^ b / 2 ^ 1
-  left = ap (λ (y : ℕ). y / 2 ^ (b + 1)) (sym g) ∙ sym (shr-shr x b 1)
+-- what is left of k's word above k
+module _ (s : List ℕ) (k : ℕ) (h : k < 512) where
+  left : get_or s (k / 64) 0 / 2 ^ (k % 64 + 1) ≡ get_or s (k / 64) 0 / 2 ^ (k % 64) / 2
+  left = sym (shr-shr (get_or s (k / 64) 0) (k % 64) 1)
 
-  pub above_none : x / 2 ^ b / 2 ≡ 0 → Clear s (k + 1) ((w + 1) * 64)
-  above_none z j p q = rest_none s w (b + 1) (omega arith) (left ∙ z) j (omega arith) (omega arith)
+  pub above_none : get_or s (k / 64) 0 / 2 ^ (k % 64) / 2 ≡ 0 → Clear s (k + 1) ((k / 64 + 1) * 64)
+  above_none z j p q = rest_none s (k / 64) (k % 64 + 1) (omega arith) (left ∙ z) j (omega arith) (omega arith)
 
-  pub above_some : x < 2 ^ 64 → 0 < x / 2 ^ b / 2 → LowestFrom s (k + 1) (k + 1 + count_trailing_zeros 64 (x / 2 ^ b / 2))
+  pub above_some : get_or s (k / 64) 0 < 2 ^ 64 → 0 < get_or s (k / 64) 0 / 2 ^ (k % 64) / 2
+      → LowestFrom s (k + 1) (k + 1 + count_trailing_zeros 64 (get_or s (k / 64) 0 / 2 ^ (k % 64) / 2))
   above_some z p =
-      let at : w * 64 + (b + 1) ≡ k + 1 = omega arith in
-      rw (at, left) at (rest_some s w (b + 1) (omega arith) (rw g at z) (rw (sym left) at p) (omega arith))
+      let at : (k / 64) * 64 + (k % 64 + 1) ≡ k + 1 = omega arith in
+      rw (at, left) at (rest_some s (k / 64) (k % 64 + 1) (omega arith) z (rw (sym left) at p) (omega arith))

@@ -1,5 +1,5 @@
 -- Sets of the numbers 0 to 511 as lists of 64-bit words: the number k is binary digit k % 64 of word k / 64.
-use Rattle.std.specs.Prelude.{◌≡◌, Bool, false, true, List, ℕ, ◌/◌, ◌%◌, ◌^◌, ◌≤◌, ◌<◌, get_or, eqb}
+use Rattle.std.specs.Prelude.{◌≡◌, Bool, false, true, List, ℕ, ◌+◌, ◌/◌, ◌%◌, ◌^◌, ◌≤◌, ◌<◌, get_or, eqb, Option, MatchOption}
 
 -- binary digit j of x, the lowest is 0
 unfoldable pub digit : ℕ → ℕ → ℕ
@@ -24,3 +24,7 @@ pub record LowestFrom (s : List ℕ) (a r : ℕ) : Type 0 where
   pub high : r ≤ 512
   pub found : r < 512 → member s r ≡ true
   pub below : Clear s a r
+
+-- a step of a walk over the members of s, of which k came last: with r the walk goes on at t and n
+abbrev pub Walks : (s : List ℕ) (k : ℕ) (r : Option ℕ) (t : List ℕ) (n : ℕ) → Type 0
+Walks s k r t n = (t ≡ s) × MatchOption r (LowestFrom s (k + 1) 512) (λ m. (n ≡ m) × (m < 512) × LowestFrom s (k + 1) m)

@@ -1,10 +1,11 @@
 // Sets of the numbers 0 to 511, as eight 64-bit words: the number k is bit k % 64 of word k / 64. Numbers are taken modulo 512.
 #![tactic(auto)]
 
-ghost use Rattle.std.specs.Prelude.{◌≡◌, false, true, ℕ, ◌+◌, ◌*◌, ◌/◌, ◌%◌, ◌<◌, ◌≤◌, length, get_or};
-ghost use Rattle.sets.specs.Member.{member, Put, LowestFrom};
+ghost use Rattle.std.specs.Prelude.{◌≡◌, false, true, ℕ, ◌+◌, ◌*◌, ◌-◌, ◌/◌, ◌%◌, ◌<◌, ◌≤◌, length, get_or};
+ghost use Rattle.std.specs.Iterator.{at_most};
+ghost use Rattle.sets.specs.Member.{member, Put, LowestFrom, Walks};
 
-// The word that holds the number k, by a shift, and its bit there, by a mask.
+// The word that holds the number k, by a shift, and its bit there, by a mask: the customer asks for these, proved equal to the quotient and the rest.
 fn word_of(k: usize) -> usize
     ensures { result ≡ k % 512 / 64 }
 {
@@ -15,14 +16,6 @@ fn bit_of(k: usize) -> usize
     ensures { result ≡ k % 512 % 64 }
 {
     k & 63
-}
-
-// The word w of the eight.
-fn word(s: &[u64], w: usize) -> u64
-    requires { (length s.now ≡ 8) × (w < 8) }
-    ensures { (result ≡ get_or s.now w 0) × (length s.now ≡ 8) }
-{
-    s[w]
 }
 
 // The set with no member.
@@ -36,16 +29,14 @@ pub fn empty() -> [u64; 8]
 pub fn insert(s: &mut [u64; 8], k: usize)
     ensures { Put s.old (k % 512) true s.new }
 {
-    let w = word_of(k);
-    s[w] = word(s, w) | 1 << bit_of(k);
+    s[word_of(k)] |= 1 << bit_of(k);
 }
 
 // Makes k no member, and changes nothing else.
 pub fn remove(s: &mut [u64; 8], k: usize)
     ensures { Put s.old (k % 512) false s.new }
 {
-    let w = word_of(k);
-    s[w] = word(s, w) & !(1 << bit_of(k));
+    s[word_of(k)] &= !(1 << bit_of(k));
 }
 
 // Makes k a member, or none, as b says.
@@ -64,13 +55,11 @@ fn from_word(s: &[u64; 8], i: usize) -> usize
     requires { i ≤ 8 }
     ensures { LowestFrom s.now (i * 64) result }
 {
-    let mut w = i;
-    while w < 8 {
-        let x = word(s, w);
+    for w in i..8 {
+        let x = s[w];
         if x != 0 {
-            return w * 64 + u64::trailing_zeros(x) as usize;
+            return w * 64 + x.trailing_zeros() as usize;
         }
-        w += 1;
     }
     512
 }
@@ -87,9 +76,35 @@ pub fn above(s: &[u64; 8], k: usize) -> usize
     ensures { LowestFrom s.now (k % 512 + 1) result }
 {
     let w = word_of(k);
-    let x = word(s, w) >> bit_of(k) >> 1;
+    let x = s[w] >> bit_of(k) >> 1;
     if x != 0 {
-        return k % 512 + 1 + u64::trailing_zeros(x) as usize;
+        return k % 512 + 1 + x.trailing_zeros() as usize;
     }
     from_word(s, w + 1)
+}
+
+// The members of a set above a number, in order.
+#[derive(Drop)]
+pub struct MembersAbove<'a> {
+    pub set: &'a [u64; 8],
+    // That number, and then the member that came last.
+    pub last: usize,
+    ghost inside: { last < 512 },
+}
+
+impl<'a> Iterator for MembersAbove<'a> {
+    type Item = usize;
+
+    ghost next_gives = { λ s r t. Walks s.set.now s.last r t.set.now t.last };
+
+    ghost remaining = { λ s. at_most (511 - s.last) };
+
+    fn next(&mut self) -> Option<usize> {
+        let k = above(self.set, self.last);
+        if k == 512 {
+            return None;
+        }
+        self.last = k;
+        Some(k)
+    }
 }

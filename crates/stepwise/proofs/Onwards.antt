@@ -1,7 +1,7 @@
 -- Arrays that stand for a channel: whether a column is left to draw, what drawing columns one after another leaves, and what a step answers.
 use Prim.Native.Nat.{ℕ, suc, ◌+◌, ◌*◌, ◌/◌, ◌≤◌, ◌<◌, min}
 use mathlib.Core.Path.{◌≡◌, refl, sym, ap, ap₂, subst, ◌∙◌}
-use mathlib.Core.Logic.{⊎_elim}
+use mathlib.Core.Logic.{◌≢◌, ⊎_elim}
 use mathlib.Core.Bool.{Bool, true, false, not, ◌&&◌}
 use mathlib.Core.List.{List, [], ◌++◌}
 use native.Mathlib.Omega.{arith}
@@ -9,7 +9,12 @@ use native.Mathlib.Nat.{suc-mul, mul-le-mul_right}
 use lib.Dec.{eqb, ltb}
 use lib.ListN.{length, get_or, drop, get_or-eq_default}
 use Rattle.grid.specs.Channel.{pick}
-use Rattle.grid.specs.Refusals.{if_accepted}
+use Rattle.std.specs.Prelude.{Result, Ok, Err}
+use Rattle.grid.specs.declared.refusals.Refusal.{Refusal}
+use Rattle.grid.specs.declared.refusals.Refusal.TheVariants.{LayoutTooShort}
+use Rattle.grid.specs.Refusals.{number_of, answer_of}
+use Rattle.grid.proofs.Answers.{accepted_old}
+use Rattle.grid.proofs.Numbers.{number_answer, figures_answer, pick_within}
 use Rattle.grid.proofs.Tests.{not_both, below_or, and_none, and_true, ltb-true, ltb-false, lt-ltb, le-ltb, eq-eqb, ne_eqb}
 use Rattle.sets.specs.Member.{member, LowestFrom}
 use Rattle.sweep.specs.Tracks.{many}
@@ -22,7 +27,7 @@ use Rattle.router.specs.State.{Standing}
 use Rattle.router.proofs.Laws.Sweeps.{nonzero}
 use Rattle.router.proofs.Laws.Standing.{standing_fit, standing_enough, standing_ready}
 use Rattle.stepwise.specs.declared.Stepped.{Stepped}
-use Rattle.stepwise.specs.Sweep.{state_of, Stands, stepped, Steps}
+use Rattle.stepwise.specs.Sweep.{state_of, Stands, no_step, step_figures, step_refused, stepped, Steps}
 use Rattle.stepwise.specs.Working.{DrawsOn}
 
 -- past column n no net has pins to come
@@ -130,6 +135,17 @@ module _ {tp bt : List ℕ} {t c : ℕ} {up lo first last : List ℕ} where
     draws_asked p = record { drawn = omega (arith, D.drawn); stands = D.stands; shows = D.shows }
 
 -- WHAT A STEP ANSWERS
+module _ (top bottom : List ℕ) (t c k lent : ℕ) where
+  -- its number is that of its refusal
+  pub stepped_number : number_of (stepped top bottom t c k lent) ≡ step_refused top bottom t c lent
+  unfolding stepped
+  stepped_number = number_answer _ _ (pick_within _ 8 0 (omega arith) (omega arith))
+
+  -- and a refusal has zeros
+  pub stepped_zeros : step_refused top bottom t c lent ≢ 0 → step_figures (stepped top bottom t c k lent) ≡ no_step
+  unfolding stepped
+  stepped_zeros n = figures_answer no_step (step_refused top bottom t c lent) _ ∙ accepted_old (step_refused top bottom t c lent) _ no_step n
+
 -- up to the width, not to be below it is to have reached it
 not_below : (e w : ℕ) → e ≤ w → not (ltb e w) ≡ eqb e w
 not_below e w p =
@@ -137,12 +153,8 @@ not_below e w p =
     (λ (q : w ≤ e). ap not (le-ltb e w q) ∙ sym (eq-eqb e w (omega arith))) (below_or e w)
 
 -- the answer by whether the slice is too short, with e columns drawn
-answer_by : (w : ℕ) (short : Bool) (e : ℕ) → Stepped
-answer_by w short e = record {
-  number = pick short 8 0;
-  drawn = if_accepted (pick short 8 0) e 0;
-  finished = if_accepted (pick short 8 0) (eqb e w) false;
-}
+answer_by : (w : ℕ) (short : Bool) (e : ℕ) → Result Stepped Refusal
+answer_by w short e = answer_of (pick short 8 0) (record { drawn = e; finished = eqb e w })
 
 module _ {tp bt : List ℕ} {t c : ℕ} {n tr d : ℕ} {up lo first last a f low high number s : List ℕ}
     (S : Stands tp bt t c (state_of n tr d up lo first last a f low high number s)) where
@@ -154,7 +166,7 @@ module _ {tp bt : List ℕ} {t c : ℕ} {n tr d : ℕ} {up lo first last a f low
 
   -- A SLICE THAT IS TOO SHORT is refused, and nothing is done
   pub step_short : {q k : ℕ} {old : List ℕ} → (n ≤ 256 → tr ≤ 511 → q ≡ formula_length n tr) → length old < q
-      → Steps tp bt t c k old old (record { number = 8; drawn = 0; finished = false }) (state_of n tr d up lo first last a f low high number s)
+      → Steps tp bt t c k old old (Err LayoutTooShort) (state_of n tr d up lo first last a f low high number s)
   unfolding stepped answer_by
   step_short {q} {k} {old} h p =
       let b : ltb (length old) (formula_length (length tp) t) ≡ true = lt-ltb _ _ (subst (λ (z : ℕ). length old < z) (asked_length h) p) in
@@ -170,11 +182,11 @@ module _ {tp bt : List ℕ} {t c : ℕ} {n tr d : ℕ} {up lo first last a f low
       → DrawsOn tp bt tr d k e up lo first last a' f' low' high' number' s' old new)
       → ((tp bt up lo first last a f low high number : List ℕ) (t : ℕ) → n ≡ length tp → Standing tp bt t e up lo first last a f low high number s'
       → b ≡ ltb e (width t tp bt))
-      → Steps tp bt t c k old new (record { number = 0; drawn = e; finished = not b }) (state_of n tr e up lo first last a' f' low' high' number' s')
+      → Steps tp bt t c k old new (Ok (record { drawn = e; finished = not b })) (state_of n tr e up lo first last a' f' low' high' number' s')
   unfolding stepped answer_by
   step_drew {q} {k} {e} {b} {a'} {f'} {low'} {high'} {number'} {s'} {old} {new} h p draws left =
       record {
-        answer = ap (λ (z : Bool). record { number = 0; drawn = e; finished = z }) (ap not is ∙ not_below e (width t tp bt) D.stands.within)
+        answer = ap (λ (z : Bool). Ok (record { drawn = e; finished = z })) (ap not is ∙ not_below e (width t tp bt) D.stands.within)
             ∙ ap₂ (answer_by (width t tp bt)) (sym fits) D.drawn;
         stands = record {
           columns = S.columns;

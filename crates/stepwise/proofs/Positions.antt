@@ -12,7 +12,9 @@ use lib.ListN.{length, take, drop, length-append, length-drop}
 use lib.Seq.{drop-append-add, drop-drop}
 use Rattle.grid.specs.declared.Family.TheVariants.{TwoPin}
 use Rattle.grid.specs.Channel.{pick, density, family, pins_within, rows_refused}
-use Rattle.grid.specs.Refusals.{if_accepted}
+use Rattle.std.specs.Prelude.{Result}
+use Rattle.grid.specs.declared.refusals.Refusal.{Refusal}
+use Rattle.grid.specs.Refusals.{if_accepted, number_of}
 use Rattle.grid.proofs.Tests.{ltb-false, le-ltb, pick_past}
 use Rattle.grid.proofs.Answers.{first_past, accepted_new}
 use Rattle.grid.proofs.Rows.{rows_fit}
@@ -25,6 +27,7 @@ use Rattle.placing.proofs.Placed.{placed_within, placed_length_top, placed_befor
 use Rattle.stepwise.specs.declared.Stepped.{Stepped}
 use Rattle.stepwise.specs.Sweep.{State, Stands, start_refused, started, Starts, reached, stepped, ShowsColumns, Steps}
 use Rattle.stepwise.specs.Sweep.{late_top, late_bottom, late_refused, PlacesLate}
+use Rattle.stepwise.proofs.Onwards.{stepped_number}
 use Rattle.stepwise.specs.Calls.{Call, Step, Place, Position, after, after_all, Leads, stays, steps, places}
 
 -- THE CHANNEL
@@ -65,12 +68,12 @@ within_two top bottom e = rw e refl
 -- those that the start lets through
 module _ (top bottom : List ℕ) (ok : start_refused top bottom ≡ 0) where
   -- are accepted
-  start_accepted : rows_refused top bottom 256 ≡ 0
+  pub start_accepted : rows_refused top bottom 256 ≡ 0
   unfolding start_refused
   start_accepted = (first_past (rows_refused top bottom 256) (pick (pins_within top bottom 2) 0 7) ok).0
 
   -- and of two-pin nets
-  start_pairs : family top bottom ≡ TwoPin
+  pub start_pairs : family top bottom ≡ TwoPin
   unfolding start_refused
   start_pairs = go (pins_within top bottom 2) refl (first_past (rows_refused top bottom 256) (pick (pins_within top bottom 2) 0 7) ok).1
     where
@@ -246,21 +249,22 @@ module _ (t : ℕ) (p : Position) (l₀ : List ℕ) (x : State) (l : List ℕ) (
       )
 
   -- A STEP, where the slice had document 01's length
-  hand_step : Going t p → formula_length (length p.top) t ≤ length l₀ → (k : ℕ) (l' : List ℕ) (r : Stepped) (x' : State)
+  hand_step : Going t p → formula_length (length p.top) t ≤ length l₀ → (k : ℕ) (l' : List ℕ) (r : Result Stepped Refusal) (x' : State)
       → Steps p.top p.bottom t p.drawn k l l' r x' → InHand t (after t p (Step k)) l₀ x' l'
   unfolding after stepped
   hand_step G long k l' r x' S =
-      let number : r.number ≡ 0 =
-      ap (λ (y : Stepped). y.number) S.answer
+      let number : number_of r ≡ 0 =
+      ap number_of S.answer
+      ∙ stepped_number p.top p.bottom t p.drawn k (length l)
       ∙ ap (λ (b : Bool). pick b 8 0) (le-ltb (length l) (formula_length (length p.top) t) (omega (arith, hand_length))) in
       let here = reached p.top p.bottom t p.drawn k in
       let each = 2 * t + 1 in
       record {
         stands =
-            subst (λ (c : ℕ). Stands p.top p.bottom t c x') (accepted_new r.number here p.drawn number) S.stands;
+            subst (λ (c : ℕ). Stands p.top p.bottom t c x') (accepted_new (number_of r) here p.drawn number) S.stands;
         layout =
             S.layout hand_shows
-            ∙ accepted_new r.number (drawn t p.top p.bottom here ++ drop (here * each) l) l number
+            ∙ accepted_new (number_of r) (drawn t p.top p.bottom here ++ drop (here * each) l) l number
             ∙ ap (λ (z : List ℕ). drawn t p.top p.bottom here ++ z) (hand_rest here (omega (arith, G.within)));
       }
 

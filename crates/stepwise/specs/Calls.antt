@@ -1,5 +1,6 @@
 -- Document 02, Job 10: what a list of calls does to a channel and its columns, steps and late nets in any order.
-use Rattle.std.specs.Prelude.{ℕ, List, [], ◌∷◌}
+use Rattle.std.specs.Prelude.{ℕ, List, [], ◌∷◌, Result}
+use Rattle.grid.specs.declared.refusals.Refusal.{Refusal}
 use Rattle.grid.specs.Refusals.{if_accepted}
 use Rattle.stepwise.specs.declared.Stepped.{Stepped}
 use Rattle.stepwise.specs.Sweep.{State, Stands, reached, Steps, late_top, late_bottom, late_refused, PlacesLate}
@@ -35,7 +36,7 @@ after_all t p (x ∷ xs) = after_all t (after t p x) xs
 -- before left
 pub data Leads : State → List ℕ → List Call → State → List ℕ → Type 0 where
   stays : (x : State) (l : List ℕ) → Leads x l [] x l
-  steps : (x x' y : State) (l l' m : List ℕ) (k : ℕ) (r : Stepped) (xs : List Call)
+  steps : (x x' y : State) (l l' m : List ℕ) (k : ℕ) (r : Result Stepped Refusal) (xs : List Call)
       → ((top bottom : List ℕ) (t c : ℕ) → Stands top bottom t c x → Steps top bottom t c k l l' r x')
       → Leads x' l' xs y m → Leads x l (Step k ∷ xs) y m
   places : (x x' y : State) (l m : List ℕ) (net column1 side1 column2 side2 r : ℕ) (xs : List Call)

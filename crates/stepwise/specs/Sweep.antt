@@ -1,8 +1,9 @@
 -- Document 02, Job 10, "Column by column, with late nets": the state between the calls, the channel that it stands for, and what each call answers and leaves.
 -- "Each call is given the state, and each step the layout slice, as the call before left it"; of other states nothing is promised but that the call stops.
-use Rattle.std.specs.Prelude.{ℕ, ◌+◌, ◌*◌, min, ◌≡◌, ◌≢◌, false, List, [], ◌++◌, eqb, ltb, length, drop}
+use Rattle.std.specs.Prelude.{ℕ, ◌+◌, ◌*◌, min, ◌≡◌, ◌≢◌, List, [], ◌++◌, eqb, ltb, length, drop, false, Result}
 use Rattle.grid.specs.Channel.{pick, density, pins_within, rows_refused}
-use Rattle.grid.specs.Refusals.{first_refusal, if_accepted}
+use Rattle.grid.specs.declared.refusals.Refusal.{Refusal}
+use Rattle.grid.specs.Refusals.{first_refusal, if_accepted, number_of, figures_or, answer_of}
 use Rattle.sweep.specs.Drawing.{drawn, width}
 use Rattle.router.specs.Answers.{formula_length}
 use Rattle.router.specs.State.{Standing}
@@ -51,23 +52,32 @@ pub record Stands (top bottom : List ℕ) (t c : ℕ) (x : State) : Type 0 where
   pub drawn : x.drawn ≡ c
   pub arrays : Standing top bottom t c x.top x.bottom x.first x.last x.strands x.free x.low x.high x.many x.extended
 
+-- THE FIGURES of the answers of start and step, zeros on refusal
+abbrev pub no_start : Started
+no_start = record { tracks = 0; length = 0 }
+
+abbrev pub start_figures : Result Started Refusal → Started
+start_figures r = figures_or no_start r
+
+abbrev pub no_step : Stepped
+no_step = record { drawn = 0; finished = false }
+
+abbrev pub step_figures : Result Stepped Refusal → Stepped
+step_figures r = figures_or no_step r
+
 -- START
 module _ (top bottom : List ℕ) where
   -- 4 to 7 of the rows; "In this sweep 7 stands for any net without exactly two pins"
   unfoldable pub start_refused : ℕ
   start_refused = first_refusal (rows_refused top bottom 256) (pick (pins_within top bottom 2) 0 7)
 
-  -- the tracks are the density of the rows given; "this sweep needs the slice length of document 01's own formula". A refusal has zeros
-  unfoldable pub started : Started
-  started = record {
-    number = start_refused;
-    tracks = if_accepted start_refused (density top bottom) 0;
-    length = if_accepted start_refused (formula_length (length top) (density top bottom)) 0;
-  }
+  -- the tracks are the density of the rows given; "this sweep needs the slice length of document 01's own formula"
+  unfoldable pub started : Result Started Refusal
+  started = answer_of start_refused (record { tracks = density top bottom; length = formula_length (length top) (density top bottom) })
 
   -- the state stands for the channel with no column drawn; after a refusal for the channel without columns
   abbrev pub Starts : State → Type 0
-  Starts = Stands (if_accepted start_refused top []) (if_accepted start_refused bottom []) started.tracks 0
+  Starts = Stands (if_accepted start_refused top []) (if_accepted start_refused bottom []) (start_figures started).tracks 0
 
 -- STEP: c columns of the channel are drawn on t tracks
 module _ (top bottom : List ℕ) (t c : ℕ) where
@@ -79,23 +89,19 @@ module _ (top bottom : List ℕ) (t c : ℕ) where
   abbrev pub step_refused : (lent : ℕ) → ℕ
   step_refused lent = pick (ltb lent (formula_length (length top) t)) 8 0
 
-  -- the columns drawn so far, and whether all are; zeros on refusal
-  unfoldable pub stepped : (k lent : ℕ) → Stepped
-  stepped k lent = record {
-    number = step_refused lent;
-    drawn = if_accepted (step_refused lent) (reached k) 0;
-    finished = if_accepted (step_refused lent) (eqb (reached k) (width t top bottom)) false;
-  }
+  -- the columns drawn so far, and whether all are
+  unfoldable pub stepped : (k lent : ℕ) → Result Stepped Refusal
+  stepped k lent = answer_of (step_refused lent) (record { drawn = reached k; finished = eqb (reached k) (width t top bottom) })
 
   -- a layout holds the columns drawn, in their places
   abbrev pub ShowsColumns : List ℕ → Type 0
   ShowsColumns l = l ≡ drawn t top bottom c ++ drop (c * (2 * t + 1)) l
 
   -- what a step of k columns does with a layout `old`, where the state stands for the channel: r is its answer, x the state and `new` the layout then
-  pub record Steps (k : ℕ) (old new : List ℕ) (r : Stepped) (x : State) : Type 0 where
+  pub record Steps (k : ℕ) (old new : List ℕ) (r : Result Stepped Refusal) (x : State) : Type 0 where
     pub answer : r ≡ stepped k (length old)
-    pub stands : Stands top bottom t (if_accepted r.number (reached k) c) x
-    pub layout : ShowsColumns old → new ≡ if_accepted r.number (drawn t top bottom (reached k) ++ drop (reached k * (2 * t + 1)) old) old
+    pub stands : Stands top bottom t (if_accepted (number_of r) (reached k) c) x
+    pub layout : ShowsColumns old → new ≡ if_accepted (number_of r) (drawn t top bottom (reached k) ++ drop (reached k * (2 * t + 1)) old) old
 
   -- PLACE a late net at two terminals
   module _ (net column1 side1 column2 side2 : ℕ) where

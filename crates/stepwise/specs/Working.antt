@@ -1,29 +1,17 @@
 -- What the private functions promise each other. No promise of a public call rests on these.
-use Rattle.std.specs.Prelude.{ℕ, ◌+◌, min, ◌≡◌, Bool, true, false, List, length}
-use Rattle.grid.specs.declared.Family.{Family}
-use Rattle.grid.specs.declared.Family.TheVariants.{TwoPin, ThreePin, ManyPin}
-use Rattle.grid.specs.Places.{padded}
+use Rattle.std.specs.Prelude.{ℕ, ◌+◌, min, ◌≡◌, true, List, Result}
+use Rattle.grid.specs.declared.NetFacts.{NetFacts}
+use Rattle.grid.specs.declared.refusals.Refusal.{Refusal}
+use Rattle.grid.specs.Refusals.{answer_of}
+use Rattle.grid.specs.Answers.{accepted_facts}
+use Rattle.stepwise.specs.Sweep.{start_refused}
 use Rattle.sweep.specs.Drawing.{width}
 use Rattle.router.specs.Working.{DrawnTo}
-use Rattle.router.specs.State.{Standing, Begun}
-use Rattle.stepwise.specs.Sweep.{State}
+use Rattle.router.specs.State.{Standing}
 
--- the family that this sweep takes
-abbrev pub is_two_pin : Family → Bool
-is_two_pin TwoPin = true
-is_two_pin ThreePin = false
-is_two_pin ManyPin = false
-
--- the state x is made of these rows and tables, with no column drawn on t tracks
-pub record Laid (top bottom firsts lasts : List ℕ) (t : ℕ) (x : State) : Type 0 where
-  pub columns : x.columns ≡ length top
-  pub tracks : x.tracks ≡ t
-  pub drawn : x.drawn ≡ 0
-  pub upper : x.top ≡ padded top
-  pub lower : x.bottom ≡ padded bottom
-  pub first : x.first ≡ firsts
-  pub last : x.last ≡ lasts
-  pub begun : Begun t x.strands x.free x.low x.high x.many x.extended
+-- the facts of the nets of rows that a start takes, or its refusal
+unfoldable pub two_pin_facts : (top bottom : List ℕ) → Result NetFacts Refusal
+two_pin_facts top bottom = answer_of (start_refused top bottom) (accepted_facts top bottom)
 
 -- k columns more, or all that are left, are drawn after column c: e are drawn then, the arrays stand for that, and a layout l that showed the columns 1 to c
 -- is l', which shows those up to e

@@ -48,8 +48,7 @@ pub(crate) fn draw(
         layout.old layout.new }
 {
     let mut e = c;
-    let mut i = 0;
-    while i < k {
+    for _ in 0..k {
         if !has_next(extended, n, e) {
             return e;
         }
@@ -57,7 +56,6 @@ pub(crate) fn draw(
             upper, lower, first, last, strands, free, low, high, many, extended, t, e, layout,
         );
         e += 1;
-        i += 1;
     }
     e
 }

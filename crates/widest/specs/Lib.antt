@@ -1,4 +1,2 @@
--- What the customer must believe of the widest drawing: `Widest`, the channel written, and what the call answers and leaves. `Working` serves private
--- functions alone.
+-- What the customer must believe of the widest drawing: `Widest`, the channel written, and what the call answers and leaves.
 pub mod Widest
-pub mod Working

@@ -1,9 +1,8 @@
 -- Document 02, Job 12, "The widest drawing": the channel that is written, what the call answers, and what it leaves in the lent rows.
-use Rattle.std.specs.Prelude.{ℕ, zero, suc, ◌+◌, ◌*◌, ◌/◌, ◌%◌, not, List, [], ◌∷◌, ◌++◌, eqb, ltb, length, replicate}
+use Rattle.std.specs.Prelude.{ℕ, zero, suc, ◌+◌, ◌*◌, ◌/◌, ◌%◌, not, List, [], ◌∷◌, ◌++◌, eqb, ltb, length, replicate, Result}
 use Rattle.grid.specs.Channel.{pick}
-use Rattle.grid.specs.Refusals.{if_accepted}
-use Rattle.widest.specs.declared.Added.{Added}
-use Rattle.widest.specs.declared.Added.TheVariants.{Columns, Refused}
+use Rattle.grid.specs.declared.refusals.Refusal.{Refusal}
+use Rattle.grid.specs.Refusals.{if_accepted, figures_or, answer_of}
 
 -- THE CHANNEL of n columns, "of two-pin nets whose drawing adds n/2 columns, rounded down". With h for n/2, rounded down, its nets are 1 to 2h:
 --   top     2  4  ..  2h      1  3  ..  2h - 1
@@ -35,19 +34,9 @@ widest_top n = top_of (n % 2) (n / 2)
 unfoldable pub widest_bottom : (n : ℕ) → List ℕ
 widest_bottom n = bottom_of (n % 2) (n / 2)
 
--- THE ANSWER: its number, "The number on acceptance is 0", and the columns added, 0 on refusal
-abbrev pub number_of : Added → ℕ
-number_of (Columns k) = 0
-number_of (Refused k) = k
-
-abbrev pub columns_of : Added → ℕ
-columns_of (Columns k) = k
-columns_of (Refused k) = 0
-
--- the answer with a number and k columns added
-abbrev pub added_by : (number k : ℕ) → Added
-added_by zero k = Columns k
-added_by (suc j) k = Refused (suc j)
+-- THE ANSWER: the columns added, 0 on refusal
+abbrev pub columns_of : Result ℕ Refusal → ℕ
+columns_of r = figures_or 0 r
 
 -- WHAT THE CALL ANSWERS, for lent rows of n and m entries
 module _ (n m : ℕ) where
@@ -56,8 +45,8 @@ module _ (n m : ℕ) where
   refused = pick (not (eqb n m)) 4 (pick (ltb 256 n) 5 0)
 
   -- "n/2 columns, rounded down"
-  unfoldable pub answer : Added
-  answer = added_by refused (n / 2)
+  unfoldable pub answer : Result ℕ Refusal
+  answer = answer_of refused (n / 2)
 
 -- WHAT IT LEAVES in rows that held `top` and `bottom`: the channel, and "A refused call writes to no lent slice"
 module _ (top bottom : List ℕ) where

@@ -2,25 +2,10 @@
 #![tactic(auto)]
 
 ghost use Rattle.std.specs.Prelude.{◌≡◌, ◌/◌, ◌%◌, ◌≤◌, length};
-ghost use Rattle.grid.specs.Refusals.{if_accepted};
-ghost use Rattle.widest.specs.Widest.{by_two, halves, number_of, columns_of, refused, answer, top_after, bottom_after};
-ghost use Rattle.widest.specs.Working.{front_cleared};
+ghost use Rattle.grid.specs.Refusals.{if_accepted, number_of};
+ghost use Rattle.widest.specs.Widest.{by_two, halves, columns_of, refused, answer, top_after, bottom_after};
 
-// The columns that the drawing adds, or the number of the refusal.
-#[derive(Clone, Copy)]
-pub enum Added {
-    Columns(usize),
-    Refused(u16),
-}
-
-// Empties the first column of a row of odd length.
-fn clear_front(row: &mut [u16])
-    ensures { row.new ≡ front_cleared row.old }
-{
-    if row.len() % 2 == 1 {
-        row[0] = 0;
-    }
-}
+use grid::Refusal;
 
 // Fills a part of a row, counting by two.
 fn count_by_two(part: &mut [u16], first: u16)
@@ -28,29 +13,27 @@ fn count_by_two(part: &mut [u16], first: u16)
     ensures { part.new ≡ by_two first (length part.old) }
 {
     let mut net = first;
-    let mut i = 0;
-    while i < part.len() {
-        part[i] = net;
+    for pin in part.iter_mut() {
+        *pin = net;
         net += 2;
-        i += 1;
     }
 }
 
-// Writes a row of the channel: its halves count from `first` and from `second`.
+// Writes a row of the channel: its first column is empty where it has an odd number of them, and its halves count from `first` and from `second`.
 fn write_halves(row: &mut [u16], first: u16, second: u16)
     requires { (length row.old ≤ 256) × (first ≤ 2) × (second ≤ 2) }
     ensures { row.new ≡ halves (length row.old % 2) (length row.old / 2) first second }
 {
     let n = row.len();
-    let start = n % 2;
-    let middle = start + n / 2;
-    clear_front(row);
-    count_by_two(&mut row[start..middle], first);
-    count_by_two(&mut row[middle..], second);
+    let (front, rest) = row.split_at_mut(n % 2);
+    let (one, other) = rest.split_at_mut(n / 2);
+    front.fill(0);
+    count_by_two(one, first);
+    count_by_two(other, second);
 }
 
 // Writes the channel into two rows of n entries each; how many columns its drawing adds. A refusal leaves the rows as they are.
-pub fn write(top: &mut [u16], bottom: &mut [u16]) -> Added
+pub fn write(top: &mut [u16], bottom: &mut [u16]) -> Result<usize, Refusal>
     ensures answer { result ≡ answer (length top.old) (length bottom.old) }
     ensures number { number_of result ≡ refused (length top.old) (length bottom.old) }
     ensures columns { columns_of result ≡ if_accepted (number_of result) (length top.old / 2) 0 }
@@ -59,12 +42,12 @@ pub fn write(top: &mut [u16], bottom: &mut [u16]) -> Added
 {
     let n = top.len();
     if n != bottom.len() {
-        return Added::Refused(4);
+        return Err(Refusal::RowLengths);
     }
     if 256 < n {
-        return Added::Refused(5);
+        return Err(Refusal::TooManyColumns);
     }
     write_halves(top, 2, 1);
     write_halves(bottom, 1, 2);
-    Added::Columns(n / 2)
+    Ok(n / 2)
 }

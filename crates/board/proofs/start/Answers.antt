@@ -2,16 +2,14 @@
 use Rattle.board.proofs.Stored.{start_made, start_too_wide}
 use Rattle.board.proofs.start.Goals as goal
 
--- the clauses by their names
-named-number-board : {A0 A1 : Type 0} → A0 × A1 → record { number : A0; board : A1 }
-named-number-board p = record { number = p.0; board = p.1 }
-
 pub returns-then-n-gt256 : goal.returns-then-n-gt256
 returns-then-n-gt256 c =
-    named-number-board (start_too_wide c.args.n c.no_row.result c.no_row-2.result c.no_row-3.result
-    c.no_row.ensures c.no_row-2.ensures c.no_row-3.ensures c.if-n-gt256.true)
+    let p = start_too_wide c.args.n c.no_row.result c.no_row-2.result c.no_row-3.result
+    c.no_row.ensures c.no_row-2.ensures c.no_row-3.ensures c.if-n-gt256.true in
+    record { number = p.0; board = p.1 }
 
 pub returns : goal.returns
 returns c =
-    named-number-board (start_made c.args.n c.no_row.result c.no_row-2.result c.no_row-3.result
-    c.no_row.ensures c.no_row-2.ensures c.no_row-3.ensures c.if-n-gt256.false)
+    let p = start_made c.args.n c.no_row.result c.no_row-2.result c.no_row-3.result
+    c.no_row.ensures c.no_row-2.ensures c.no_row-3.ensures c.if-n-gt256.false in
+    record { number = p.0; board = p.1 }

@@ -1,11 +1,8 @@
-use Prim.Native.Nat.{◌≤◌, ◌-◌}
-use lib.ListN.{length, get_or}
-use Rattle.record.specs.Working.{PutOver}
-use Rattle.canonical.proofs.PutRows.{words_to}
+use lib.ListN.{take}
+use Rattle.record.specs.Record.{words}
+use Rattle.record.specs.Working.{Puts}
+use Rattle.canonical.specs.Working.{by_table}
 use Rattle.canonical.proofs.put_row.Given as goal
 
-abbrev pub invariant-loop-i : goal.invariant-loop-i
-invariant-loop-i l = (l.i ≤ length l.row) × PutOver l.initial.bytes l.at (words_to (λ v. get_or l.numbers v 0) l.row l.i) l.end l.bytes
-
-abbrev pub decreases-loop-i : goal.decreases-loop-i
-decreases-loop-i l = length l.row - l.i
+abbrev pub invariant-loop-net : goal.invariant-loop-net
+invariant-loop-net l = Puts l.initial.out (words (by_table l.numbers (take l.net-index l.row))) l.out

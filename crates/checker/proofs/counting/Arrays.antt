@@ -3,13 +3,15 @@ use Prim.Native.Nat.{ℕ, ◌+◌, ◌≤◌, ◌<◌}
 use mathlib.Core.Path.{◌≡◌, refl, sym, ◌∙◌, ap}
 use mathlib.Core.Logic.{◌≢◌, ◌⊎◌, inl, inr, by_cases}
 use mathlib.Core.Bool.{Bool, true, false}
-use mathlib.Core.List.{List, [], ◌∷◌}
-use lib.ListN.{length, get_or, set, length-set}
+use mathlib.Core.List.{List, [], ◌∷◌, ◌++◌}
+use lib.ListN.{length, get_or, set, take, drop, length-set}
 use lib.Seq.{get_or-set_same, get_or-set_other}
 use lib.Dec.{eqb}
 use native.Mathlib.Omega.{arith}
 use native.Mathlib.Decide.{ℕ_discrete}
 use native.Mathlib.Numerals.{add-one}
+use Rattle.std.proofs.Common.{length-append, length-drop}
+use Rattle.std.proofs.lemmas.List.{get_or-take, get_or_append_left, length-take-le}
 use Rattle.grid.specs.Channel.{pick, bit}
 use Rattle.grid.proofs.Tests.{eq-eqb, ne_eqb, bit_most}
 use Rattle.grid.proofs.Tables.{tallied_at}
@@ -152,6 +154,13 @@ merge_miss old new lab₀ lab k m e =
 pub merge_same : (old new t : ℕ) (lab : List ℕ) → old ≡ new → Merged old new t lab lab
 merge_same old new t lab e = record { long = refl; at = λ k l. rw (← e) (sym (sub_self old (get_or lab k 0))) }
 
--- at the end
-pub merge_all : (old new t : ℕ) (lab₀ lab : List ℕ) (k : ℕ) → Merging old new lab₀ lab k → t ≤ k → Merged old new t lab₀ lab
-merge_all old new t lab₀ lab k m l = record { long = m.long; at = λ i h. m.below i (omega arith) }
+-- at the end, with the labels after the first t, which stay
+pub merge_all :
+    (old new t : ℕ) (lab₀ lab : List ℕ) (k : ℕ) → t ≤ length lab₀ → Merging old new (take t lab₀) lab k → length (take t lab₀) ≤ k
+    → Merged old new t lab₀ (lab ++ drop t lab₀)
+merge_all old new t lab₀ lab k h m l = record {
+  long = length-append lab (drop t lab₀) ∙ omega (arith, m.long, length-take-le t lab₀ h, length-drop t lab₀);
+  at = λ i j.
+      get_or_append_left lab (drop t lab₀) 0 i (omega (arith, m.long, length-take-le t lab₀ h))
+      ∙ m.below i (omega (arith, length-take-le t lab₀ h)) ∙ ap (sub old new) (get_or-take t lab₀ i 0 j);
+}

@@ -10,7 +10,7 @@ use Rattle.grid.specs.Grid.{vertical_of, horizontal_of, OnePiece}
 use Rattle.pieces.specs.Labels.{left_from, labelled, after_points, net_of}
 use Rattle.pieces.proofs.Alone.{fresh}
 use Rattle.pieces.proofs.Whole.{labels, pieces, exact}
-use Rattle.checker.specs.Working.{Within, Entry, ColumnAt, seen, Labs, PerNet, PieceCounted, CountedTo, CountedAll, State}
+use Rattle.checker.specs.Working.{Within, ColumnAt, seen, Labs, PerNet, PieceCounted, CountedTo, CountedAll, State}
 use Rattle.checker.proofs.Limits.{index_of}
 use Rattle.checker.proofs.counting.Counts.{counted_start, counted_first, counted_last}
 use Rattle.checker.proofs.counting.Positions.{room, short, NextColumn, next_start, next_small, next_after}
@@ -33,7 +33,7 @@ small_base D t b q C = omega (arith, room D t b q C, short D t b q C)
 -- the first point: the lowest edge is its own label and begins a piece
 pub begin_state :
     (D : List ℕ) (t b q M : ℕ) (lab begun begun' joined : List ℕ) → ColumnAt D t b q → Labs D t b q 0 (seen D t b q 0) lab
-    → CountedTo D (seen D t b q 0) b begun joined → Entry D b M → PieceCounted b b M begun begun' → State D t b q 0 b lab begun' joined
+    → CountedTo D (seen D t b q 0) b begun joined → M ≡ net_of D b → PieceCounted b b M begun begun' → State D t b q 0 b lab begun' joined
 begin_state D t b q M lab begun begun' joined C L c e g = record {
   labels = record {
     down = λ n.

@@ -5,10 +5,19 @@ use mathlib.Core.List.{List}
 use lib.ListN.{length}
 use native.Mathlib.Omega.{arith}
 use native.Mathlib.Numerals.{add-one}
-use Rattle.pieces.specs.Labels.{left_from, net_of}
+use Rattle.pieces.specs.Labels.{left_from}
 use Rattle.pieces.proofs.Alone.{Left, left_of_lem}
-use Rattle.checker.specs.Working.{Within, ColumnAt}
+use Rattle.checker.specs.declared.points.Column.{Column}
+use Rattle.checker.specs.Working.{Within, ColumnAt, ColumnIs}
 use Rattle.checker.proofs.Limits.{few_entries, index_of, column_inside}
+
+-- a column of the code
+abbrev pub column_at : (s : Column) → ColumnAt s.layout.now s.t s.b s.q
+column_at s = record { w = s.w; x = s.x; within = s.within; below = s.inside; base = s.base; before = s.before }
+
+-- with its number
+pub column_is : (s : Column) → ColumnIs s.layout.now s.t s.x s.b s.q
+column_is s = record { column = column_at s; number = refl }
 
 -- where the horizontal entries of the column before the first begin
 pub left_from_zero : (n t : ℕ) → left_from n t 0 ≡ n
@@ -40,10 +49,6 @@ module _ (D : List ℕ) (t b q : ℕ) (C : ColumnAt D t b q) where
       go : (x : ℕ) → b ≡ x * (2 * t + 1) → q ≡ left_from (length D) t x → q ≤ length D
       go zero e o = omega (arith, left_from_zero (length D) t)
       go (suc x) e o = omega (arith, left_from_suc (length D) t x, room)
-
-  -- and so is each net
-  pub net_small : (p n : ℕ) → n ≡ net_of D p → n ≤ 256
-  net_small p n e = rw e (C.within.nets p)
 
   -- the left edges are of an earlier column
   pub left_is : Left (length D) t b q

@@ -2,18 +2,22 @@
 use Prim.Native.Nat.{ℕ, zero, suc, ◌+◌, ◌-◌, ◌≤◌, ◌<◌}
 use mathlib.Core.Path.{◌≡◌, refl, sym, ◌∙◌, ap, subst}
 use mathlib.Core.Logic.{◌≢◌, ◌⊎◌, inl, inr, ⊎_elim, by_cases}
+use mathlib.Core.Bool.{Bool, true, false}
 use mathlib.Core.List.{List}
+use lib.Dec.{ltb}
 use native.Mathlib.Omega.{arith}
-use native.Mathlib.Decide.{ℕ_discrete, dec_lt}
+use native.Mathlib.Decide.{ℕ_discrete}
 use native.Mathlib.Numerals.{add-one}
+use Rattle.std.specs.Prelude.{Option}
+use Rattle.std.specs.Bool.{then_some}
+use Rattle.grid.proofs.Tests.{Below, below, above, below_by}
 use Rattle.grid.specs.Grid.{vertical_of, horizontal_of, edges_among, edges_at}
 use Rattle.pieces.specs.Labels.{net_of}
 use Rattle.checker.specs.declared.ends.Loose.{Loose}
-use Rattle.checker.specs.Check.{least, loose_net, loose_column, loose_track}
+use Rattle.checker.specs.Check.{least, some, loose_net, loose_column, loose_track}
 use Rattle.checker.specs.Faults.{Before}
-use Rattle.checker.specs.Working.{Within, Crossing, Crossings, lowest_point, ColumnIs, Clean, FirstKept, Kept, LowestLoose}
-use Rattle.checker.proofs.Least.{NoneBelow, found_at, found_none}
-use Rattle.checker.proofs.counting.Positions.{NextColumn, next_column}
+use Rattle.checker.specs.Working.{Crossing, Crossings, lowest_point, ColumnIs, Clean, FirstKept, Kept, LowestEnd, LowestLoose}
+use Rattle.checker.proofs.Least.{NoneBelow, found_at, none_of}
 use Rattle.checker.proofs.ends.Alone.{none_crossing, below_lowest, lowest_own}
 use Rattle.checker.proofs.ends.Tests.{not_loose, is_loose, no_loose, some_loose, first_point, edges_at_lem}
 
@@ -52,11 +56,6 @@ carried f o = record {
   loose = f.loose;
   clean = f.clean;
 }
-
--- the next column
-pub next_is : {D : List ℕ} {w t x b q : ℕ} → Within D w t → NextColumn D w t x b q → x < w → ColumnIs D t x b q
-unfolding next_column
-next_is d p l = record { column = next_column _ _ _ _ _ _ d p l; number = refl }
 
 -- ONE POINT MORE
 module _ {D : List ℕ} {t x b q : ℕ} (C : ColumnIs D t x b q) {j : ℕ} (l : j < t) (s : Loose) (K : Kept t D x j s) where
@@ -173,18 +172,20 @@ module _ {D : List ℕ} {w t : ℕ} (s : Loose) (K : Kept t D w 0 s) where
     lowest =
         found_at 257 (loose_net w t D) s.net none_below p (some_loose w t D s.net first.at_x first.at_j inside first.track first.loose)
 
-  -- what is kept is what is sought
-  found : LowestLoose w t D s
-  found = record {
-    net =
-        by_cases (dec_lt s.net 257) lowest
-        (λ p.
-        let e : s.net ≡ 257 = omega (arith, K.most) in
-        e ∙ found_none 257 (loose_net w t D) s.net none_below (omega arith));
-    column = λ p. (first p).column_is ∙ ap suc (point p).0;
-    row = λ p. (first p).row_is ∙ ap suc (point p).1;
-  }
+    -- what is kept is what is sought
+    kept_end : LowestEnd w t D s
+    kept_end = record { is_net = p; lowest = lowest; column = first.column_is ∙ ap suc point.0; row = first.row_is ∙ ap suc point.1 }
+
+  -- where nothing is kept no net has a loose end
+  no_end : 257 ≤ s.net → some 257 (loose_net w t D) ≡ false
+  no_end p = none_of 257 (loose_net w t D) (λ N l. none_below.none N (omega arith))
 
 -- after the last column
-pub kept_all : {D : List ℕ} {w t x : ℕ} (s : Loose) → x ≤ w → w ≤ x → Kept t D x 0 s → LowestLoose w t D s
-kept_all {D} {w} {t} {x} s a b K = let e : x ≡ w = omega arith in found s (subst (λ (k : ℕ). Kept t D k 0 s) e K)
+pub kept_all :
+    {D : List ℕ} {w t x : ℕ} {s : Loose} → x ≤ w → w ≤ x → Kept t D x 0 s → (o : Option Loose) → o ≡ then_some (ltb s.net 257) s
+    → LowestLoose w t D o
+kept_all {D} {w} {t} {x} {s} a b K o i = let e : x ≡ w = omega arith in go (ltb s.net 257) (below_by s.net 257) o i (rw e at K)
+  where
+    go : (q : Bool) → Below s.net 257 q → (o : Option Loose) → o ≡ then_some q s → Kept t D w 0 s → LowestLoose w t D o
+    go true (below l) o i K = rw i (kept_end s K l)
+    go false (above l) o i K = rw i (no_end s K l)

@@ -4,7 +4,7 @@ use mathlib.Core.Path.{◌≡◌, refl, sym, ◌∙◌, ap}
 use mathlib.Core.Logic.{◌≢◌, by_cases}
 use mathlib.Core.Bool.{Bool, true, false, not, ◌&&◌}
 use mathlib.Core.List.{List}
-use lib.ListN.{length, get_or}
+use lib.ListN.{length, get_or, drop}
 use lib.Dec.{eqb, ltb}
 use native.Mathlib.Omega.{arith}
 use native.Mathlib.Decide.{ℕ_discrete}
@@ -13,7 +13,11 @@ use Rattle.grid.specs.Channel.{bit}
 use Rattle.grid.proofs.Tests.{eq-eqb, ne_eqb, eqb-true, lt-ltb, ltb-true}
 use Rattle.checker.specs.Check.{last_edge, leaves_last}
 use Rattle.grid.proofs.Drawings.Flat.{column_of_lem, entry_of}
-use Rattle.checker.proofs.Least.{NoneBelow}
+use Rattle.std.specs.Prelude.{Option, Some, None, position}
+use Rattle.std.proofs.Common.{length-drop}
+use Rattle.std.proofs.lemmas.List.{get_or-drop}
+use Rattle.checker.specs.Working.{first_below}
+use Rattle.checker.proofs.Least.{NoneBelow, position_found, position_none}
 
 -- only an edge of the last column after its vertical entries is one
 not_last_edge : (w t x i e : ℕ) → (suc x ≡ w → t < i → e ≡ 0) → last_edge w t x i e ≡ false
@@ -55,6 +59,24 @@ module _ (w t : ℕ) (D : List ℕ) where
         go (suc x) e =
             let o : suc x * (2 * t + 1) ≡ w * (2 * t + 1) = ap (λ (k : ℕ). k * (2 * t + 1)) e in
             last_edge_in p x (p - x * (2 * t + 1)) (omega (arith, size)) (omega (arith, size)) e (omega (arith, size)) n
+
+    -- so a search of these is one for an edge of the last column
+    abbrev pub LastSearch : Option ℕ → Type 0
+    LastSearch o = o ≡ position (λ e. not (eqb e 0)) (drop (length D - t) D)
+
+    edges_tested : (k : ℕ) → k < length (drop (length D - t) D) → not (eqb (get_or (drop (length D - t) D) k 0) 0) ≡ leaves_last w t D (length D - t + k)
+    edges_tested k l = rw (get_or-drop (length D - t) D k 0) (tested (length D - t + k) (omega arith) (omega (arith, length-drop (length D - t) D)))
+      where
+        tested : (p : ℕ) → length D - t ≤ p → p < length D → not (eqb (get_or D p 0) 0) ≡ leaves_last w t D p
+        tested p l k =
+            by_cases (ℕ_discrete (get_or D p 0) 0) (λ z. ap not (eq-eqb (get_or D p 0) 0 z) ∙ sym (last_none p z))
+            (λ n. ap not (ne_eqb (get_or D p 0) 0 n) ∙ sym (last_edge_lem p l k n))
+
+    pub last_found : (i : ℕ) → LastSearch (Some i) → Some (length D - t + i) ≡ first_below (length D) (leaves_last w t D)
+    last_found i e = position_found _ _ (length D - t) last_start _ _ 0 edges_tested i (omega (arith, length-drop (length D - t) D)) e
+
+    pub last_missed : LastSearch None → None ≡ first_below (length D) (leaves_last w t D)
+    last_missed e = position_none _ _ (length D - t) last_start _ _ 0 edges_tested (omega (arith, length-drop (length D - t) D)) e
 
   -- the horizontal entries of the last column are 0 where the test finds none
   pub last_zero : (x j : ℕ) → suc x ≡ w → j < t → leaves_last w t D (x * (2 * t + 1) + t + 1 + j) ≡ false → get_or D (x * (2 * t + 1) + t + 1 + j) 0 ≡ 0

@@ -11,26 +11,16 @@ use native.Mathlib.Omega.{arith}
 use native.Mathlib.Decide.{ℕ_discrete, dec_le}
 use Rattle.grid.specs.Channel.{pins}
 use Rattle.grid.proofs.Tests.{eq-eqb, ne_eqb, eqb-false, not-true, and_none, lt-ltb, le-ltb}
-use Rattle.checker.specs.Check.{least, strange}
-use Rattle.checker.specs.Working.{PinTable, unknown, KnownMarks}
-use Rattle.checker.proofs.Least.{least_same}
+use Rattle.checker.specs.Check.{strange}
+use Rattle.checker.specs.Working.{PinTable, unknown, first_below, KnownMarks}
+use Rattle.checker.proofs.Least.{first_same}
 
 -- 0 is known
 pub unknown_zero : (m : List ℕ) (e : ℕ) → e ≡ 0 → false ≡ unknown m e
 unfolding unknown
 unknown_zero m e x = rw (eq-eqb e 0 x)
 
--- a number over 256 is not
-pub unknown_large : (m : List ℕ) (e : ℕ) → e ≢ 0 → 256 < e → true ≡ unknown m e
-unfolding unknown
-unknown_large m e x y = rw (ne_eqb e 0 x, lt-ltb 256 e y)
-
--- nor one with no pin in the table
-pub unknown-free : (m : List ℕ) (e : ℕ) → e ≢ 0 → e ≤ 256 → get_or m e 0 ≡ 0 → true ≡ unknown m e
-unfolding unknown
-unknown-free m e x y z = rw (ne_eqb e 0 x, le-ltb 256 e y, eq-eqb (get_or m e 0) 0 z)
-
--- one with a pin is
+-- a number with a pin is
 pub unknown-taken : (m : List ℕ) (e : ℕ) → e ≢ 0 → e ≤ 256 → get_or m e 0 ≢ 0 → false ≡ unknown m e
 unfolding unknown
 unknown-taken m e x y z = rw (ne_eqb e 0 x, le-ltb 256 e y, ne_eqb (get_or m e 0) 0 z)
@@ -69,10 +59,10 @@ unknown-strange top bottom m D K p = go (get_or D p 0) (ℕ_discrete (get_or D p
     go e (no z) (no l) = rw (ne_eqb e 0 z, lt-ltb 256 e (omega arith), K.none e (omega arith))
 
 -- so the lowest unknown entry is the lowest strange one
-pub least-strange :
+pub first-strange :
     (top bottom m D : List ℕ) → PinTable top bottom m
-    → least (length D) (λ p. unknown m (get_or D p 0)) ≡ least (length D) (strange top bottom D)
-least-strange top bottom m D K = least_same (length D) (λ p. unknown m (get_or D p 0)) (strange top bottom D) (λ k l. unknown-strange top bottom m D K k)
+    → first_below (length D) (λ p. unknown m (get_or D p 0)) ≡ first_below (length D) (strange top bottom D)
+first-strange top bottom m D K = first_same (length D) (λ p. unknown m (get_or D p 0)) (strange top bottom D) (λ k l. unknown-strange top bottom m D K k)
 
 -- an entry that is not strange is 0 or a net
 pub strange_not : (top bottom D : List ℕ) (p : ℕ) → strange top bottom D p ≡ false → (get_or D p 0 ≡ 0) ⊎ (0 < pins top bottom (get_or D p 0))

@@ -1,4 +1,4 @@
-use Prim.Native.Nat.{◌*◌, ◌-◌, ◌≤◌}
+use Prim.Native.Nat.{◌*◌}
 use mathlib.Core.Path.{◌≡◌}
 use mathlib.Core.List.{◌++◌}
 use lib.ListN.{take, drop}
@@ -6,7 +6,4 @@ use Rattle.export.specs.Export.{flat}
 use Rattle.export.proofs.put_nets.Given as goal
 
 abbrev pub invariant-loop-k : goal.invariant-loop-k
-invariant-loop-k l = (l.k ≤ l.count) × (l.figures ≡ flat (take l.k l.nets) ++ drop (4 * l.k) l.initial.figures)
-
-abbrev pub decreases-loop-k : goal.decreases-loop-k
-decreases-loop-k l = l.count - l.k
+invariant-loop-k l = l.figures ≡ flat (take l.k l.nets) ++ drop (4 * l.k) l.initial.figures

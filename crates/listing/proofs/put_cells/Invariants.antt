@@ -1,10 +1,6 @@
-use Prim.Native.Nat.{◌≤◌, ◌-◌}
+use Rattle.record.specs.Working.{Puts}
 use Rattle.listing.specs.Text.{cells}
-use Rattle.record.specs.Working.{PutOver}
 use Rattle.listing.proofs.put_cells.Given as goal
 
-abbrev pub invariant-loop-i : goal.invariant-loop-i
-invariant-loop-i l = (l.i ≤ l.k) × PutOver l.initial.text l.at (cells l.layout l.q l.i) l.end l.text
-
-abbrev pub decreases-loop-i : goal.decreases-loop-i
-decreases-loop-i l = l.k - l.i
+abbrev pub invariant-loop-entry : goal.invariant-loop-entry
+invariant-loop-entry l = Puts l.initial.text (cells l.entries 0 l.entry-index) l.text

@@ -1,35 +1,23 @@
-use native.Mathlib.Omega.{arith}
-use mathlib.Core.List.{[], ◌∷◌}
-use Rattle.listing.specs.Text.{column_at}
-use Rattle.record.specs.Working.{Room}
-use Rattle.record.proofs.Put.{put_then, room_before, room_behind}
+use mathlib.Core.Path.{sym}
+use Rattle.record.proofs.Put.{put_then, put_as, room_as, room_before, room_behind}
+use Rattle.listing.proofs.Front.{column_parts}
 use Rattle.listing.proofs.put_column.Goals as goal
 
-pub put_cells-vertical-requires : goal.put_cells-vertical-requires
-unfolding column_at
-put_cells-vertical-requires c = record {
-  k_in_bounds = omega arith;
-  room = room_before _ c.requires.room;
-}
-
-pub put_bytes-bar-requires : goal.put_bytes-bar-requires
-unfolding column_at
-put_bytes-bar-requires c =
-    let n = room_behind c.put_cells-vertical.ensures c.requires.room in
-    let r : Room _ _ (32 ∷ 124 ∷ []) = room_before _ n in
-    r.room
-
 pub put_cells-requires : goal.put_cells-requires
-unfolding column_at
-put_cells-requires c = record {
-  k_in_bounds = omega arith;
-  room = room_behind c.put_bytes-bar.ensures (room_behind
-      c.put_cells-vertical.ensures
-      c.requires.room);
-}
+put_cells-requires c =
+    room_before _ (room_as c.requires.room (column_parts _ _ _ _ c.requires.length c.split_at.ensures.front c.split_at.ensures.back))
+
+pub put_bytes-requires : goal.put_bytes-requires
+put_bytes-requires c =
+    room_before _ (room_behind c.put_cells.ensures
+    (room_as c.requires.room (column_parts _ _ _ _ c.requires.length c.split_at.ensures.front c.split_at.ensures.back)))
+
+pub put_cells-requires-2 : goal.put_cells-requires-2
+put_cells-requires-2 c =
+    room_behind c.put_bytes.ensures (room_behind c.put_cells.ensures
+    (room_as c.requires.room (column_parts _ _ _ _ c.requires.length c.split_at.ensures.front c.split_at.ensures.back)))
 
 pub returns : goal.returns
-unfolding column_at
 returns c =
-    put_then c.put_cells-vertical.ensures (put_then
-    c.put_bytes-bar.ensures c.put_cells.ensures)
+    put_as (put_then c.put_cells.ensures (put_then c.put_bytes.ensures c.put_cells-2.ensures)) _
+    (sym (column_parts _ _ _ _ c.requires.length c.split_at.ensures.front c.split_at.ensures.back))

@@ -13,4 +13,4 @@ returns-then-v-eq0 c h z =
 pub returns : goal.returns
 returns c h z =
     put_told c.args.many.now c.args.mates.now c.args.lone.now _ c.args.v _ c.if-v-eq0.false h
-    (ap₂ (λ (x y : ℕ). eqb x 2 && eqb y 0) c.entry.ensures c.entry-2.ensures) c.put.ensures
+    (ap₂ (λ (x y : ℕ). eqb x 2 && eqb y 0) c.entry.ensures c.entry-2.ensures) (rw c.from.ensures at c.put.ensures)

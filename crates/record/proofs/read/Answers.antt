@@ -1,31 +1,43 @@
+use Prim.Native.Nat.{ℕ, ◌+◌, ◌*◌, ◌≤◌}
 use native.Mathlib.Omega.{arith}
+use mathlib.Core.List.{List}
+use mathlib.Core.Path.{◌≡◌, ◌∙◌}
+use lib.ListN.{length, length-append, length-drop}
+use lib.Seq.{length-take-le}
+use Rattle.record.specs.Record.{record_refused}
+use Rattle.record.specs.Record as record-specs
+use Rattle.grid.proofs.Numbers.{passed_on}
 use Rattle.record.proofs.Refusals.{whole_record}
-use Rattle.record.proofs.Rows.{read_refused, read_channel}
+use Rattle.record.proofs.Rows.{read_refused, read_channel, row_laid}
 use Rattle.record.proofs.read.Goals as goal
 
--- the clauses by their names
-named-answer-number-top-bottom-columns-counts : {A0 A1 A2 A3 A4 A5 : Type 0} → A0 × (A1 × (A2 × (A3 × (A4 × A5)))) → record { answer : A0; number : A1; top : A2; bottom : A3; columns : A4; counts : A5 }
-named-answer-number-top-bottom-columns-counts p = record { answer = p.0; number = p.1.0; top = p.1.1.0; bottom = p.1.1.1.0; columns = p.1.1.1.1.0; counts = p.1.1.1.1.1 }
+-- a record that is not refused has n and two rows of n, at most 256
+rows : (s : List ℕ) (w n : ℕ) → 0 ≡ record_refused s → w ≡ record-specs.word s 4 → n ≡ w → (n ≤ 256) × (length s ≡ 6 + 4 * n)
+rows s w n e f g = let r = whole_record s e in (omega (arith, r.short, r.exact), omega (arith, r.exact))
 
-pub returns-then-k-ne0 : goal.returns-then-k-ne0
-returns-then-k-ne0 c = named-answer-number-top-bottom-columns-counts (read_refused _ _ _ _ c.refusal-k.ensures c.if-k-ne0.true)
+pub returns-in_err-refusal : goal.returns-in_err-refusal
+returns-in_err-refusal c =
+    let a = c.args in
+    let r = c.in_err-refusal.field-0.0 in
+    rw (passed_on _ r c.from_residual.ensures.1) (read_refused a.bytes.now r a.top.now a.bottom.now c.in_err-refusal.ensures)
 
-pub word-n-requires : goal.word-n-requires
-word-n-requires c = let w = whole_record c.args.bytes.now _ c.refusal-k.ensures c.if-k-ne0.false in omega (arith, w.long)
+pub word-requires : goal.word-requires
+word-requires c = omega (arith, (whole_record c.args.bytes.now c.in_ok-refusal.ensures).long)
 
-pub put_row-requires : goal.put_row-requires
-put_row-requires c = let w =
-    whole_record c.args.bytes.now _ c.refusal-k.ensures
-    c.if-k-ne0.false in omega (arith, w.short, w.exact, c.word-n.ensures)
+pub slice_bounds-read_row-end : goal.slice_bounds-read_row-end
+slice_bounds-read_row-end c = omega (arith, rows _ _ _ c.in_ok-refusal.ensures c.word.ensures c.from-n.ensures)
 
-pub put_row-requires-2 : goal.put_row-requires-2
-put_row-requires-2 c = let w =
-    whole_record c.args.bytes.now _
-    c.refusal-k.ensures c.if-k-ne0.false in omega
-    (arith, w.short, w.exact, c.word-n.ensures)
+pub read_row-requires : goal.read_row-requires
+read_row-requires c = omega (arith, rows _ _ _ c.in_ok-refusal.ensures c.word.ensures c.from-n.ensures, length-take-le {A = ℕ})
+
+pub read_row-requires-2 : goal.read_row-requires-2
+read_row-requires-2 c = omega (arith, rows _ _ _ c.in_ok-refusal.ensures c.word.ensures c.from-n.ensures, length-take-le {A = ℕ})
 
 pub returns : goal.returns
 returns c =
-    named-answer-number-top-bottom-columns-counts (read_channel _ _ _ _ _ _ _ c.refusal-k.ensures
-    c.if-k-ne0.false c.word-n.ensures
-    c.put_row.ensures c.put_row-2.ensures (omega arith) (omega arith))
+    let r = rows _ _ _ c.in_ok-refusal.ensures c.word.ensures c.from-n.ensures in
+    read_channel _ _ _ _ _ _ c.in_ok-refusal.ensures (c.from-n.ensures ∙ c.word.ensures)
+    (row_laid _ _ _ _ _ c.read_row.ensures (omega (arith, r.0)))
+    (row_laid _ _ _ _ _ c.read_row-2.ensures (omega (arith, r.0)))
+    (omega (arith, r.0, length-append {A = ℕ}, length-drop {A = ℕ}, length-take-le {A = ℕ}))
+    (omega (arith, r.0, length-append {A = ℕ}, length-drop {A = ℕ}, length-take-le {A = ℕ}))

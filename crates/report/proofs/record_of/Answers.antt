@@ -3,4 +3,4 @@ use mathlib.Core.Path.{refl}
 use Rattle.report.proofs.record_of.Goals as goal
 
 pub returns : goal.returns
-returns c = rw (c.wide.ensures, c.wide-2.ensures, c.wide-3.ensures) refl
+returns c = rw (c.from.ensures, c.from-2.ensures, c.from-3.ensures) refl

@@ -2,7 +2,6 @@
 use Prim.Native.Nat.{ℕ, zero, suc, ◌+◌, ◌*◌, ◌/◌, ◌≤◌, ◌<◌}
 use mathlib.Core.Path.{◌≡◌, refl, sym, ap, subst, ◌∙◌}
 use mathlib.Core.Bool.{Bool, true, false, not, ◌&&◌}
-use mathlib.Core.Logic.{◌≢◌}
 use mathlib.Core.List.{List, ◌++◌}
 use Rattle.grid.proofs.Views.{product_le}
 use native.Mathlib.Nat.{mul-le-mul_right}
@@ -12,7 +11,11 @@ use lib.ListN.{length, drop, get_or}
 use Rattle.grid.specs.declared.Family.{Family}
 use Rattle.grid.specs.Channel.{times, pins, left, density, family, tracks_of, tracks, rows_refused}
 use Rattle.grid.specs.Nets.{first_column, last_column, table}
-use Rattle.grid.specs.Refusals.{if_accepted}
+use Rattle.std.specs.Prelude.{Result, Ok, Err}
+use Rattle.grid.specs.declared.refusals.Refusal.{Refusal}
+use Rattle.grid.specs.declared.refusals.Refusal.TheVariants.{LayoutTooShort}
+use Rattle.grid.specs.Refusals.{if_accepted, number, number_of}
+use Rattle.grid.proofs.Numbers.{number_nonzero, refused_is, accepted_is}
 use Rattle.grid.specs.Answers.{refused_within}
 use Rattle.grid.proofs.Tests.{ne_eqb, le-ltb, ltb-true, ltb-false}
 use Rattle.grid.proofs.Answers.{accepted, accepted_new}
@@ -22,12 +25,8 @@ use Rattle.grid.proofs.Nets.{begun, goes_on}
 use Rattle.grid.proofs.OpenNets.{tracks_small}
 use Rattle.grid.proofs.Tables.{table_at, table_none}
 use Rattle.router.specs.declared.Figures.{Figures}
-use Rattle.router.specs.declared.Routed.{Routed}
-use Rattle.router.specs.declared.Routed.TheVariants as routed
-use Rattle.router.specs.declared.Length.{Length}
-use Rattle.router.specs.declared.Length.TheVariants as stated
 use Rattle.sweep.specs.Drawing
-use Rattle.router.specs.Answers.{number_of, figures_of, no_figures, length_number_of, entries_of, routed_by}
+use Rattle.router.specs.Answers.{figures_of, no_figures, entries_of}
 use Rattle.router.specs.Answers.{width, layout, formula_length, slice_length, need, refused, figures, answer, written}
 use Rattle.router.specs.Promise.{Solves}
 use Rattle.router.specs.Working.{Spans, Ready, EachFits}
@@ -111,27 +110,31 @@ module _ (top bottom : List ℕ) where
   long_by t lent b e h = ltb-false lent _ (sym e ∙ h)
 
   -- the length call refuses what the rows refuse
-  pub need_refused : (k : ℕ) → rows_refused top bottom 256 ≡ k → k ≢ 0 → stated.Refused k ≡ need top bottom
+  pub need_refused : (r : Refusal) → number r ≡ rows_refused top bottom 256 → Err r ≡ need top bottom
   unfolding need
-  need_refused zero e n = absurd (n refl)
-  need_refused (suc k) e n = sym (rw e refl)
+  need_refused r e = refused_is (rows_refused top bottom 256) (slice_length top bottom) r e
 
   -- and else states the slice length
-  pub need_stated : (t m : ℕ) → rows_refused top bottom 256 ≡ 0 → t ≡ tracks top bottom → m ≡ Drawing.width t top bottom * (2 * t + 1) → stated.Entries m ≡ need top bottom
+  pub need_stated : (t m : ℕ) → rows_refused top bottom 256 ≡ 0 → t ≡ tracks top bottom → m ≡ Drawing.width t top bottom * (2 * t + 1) → Ok m ≡ need top bottom
   unfolding need
-  need_stated t m e et em = rw (e, length_by t m et em) refl
+  need_stated t m e et em = accepted_is (rows_refused top bottom 256) (slice_length top bottom) m e (length_by t m et em)
 
   -- all that it promises, by its answer
-  pub need_promised : (r : Length) → r ≡ need top bottom
-      → (r ≡ need top bottom) × ((length_number_of r ≡ rows_refused top bottom 256) × (entries_of r ≡ if_accepted (length_number_of r) (slice_length top bottom) 0))
+  pub need_promised : (r : Result ℕ Refusal) → r ≡ need top bottom
+      → (r ≡ need top bottom) × ((number_of r ≡ rows_refused top bottom 256) × (entries_of r ≡ if_accepted (number_of r) (slice_length top bottom) 0))
   need_promised r e = (e, need_promise top bottom r e)
 
 -- with a limit of columns
 module _ (top bottom : List ℕ) (most : ℕ) where
-  -- the answer by the number of the refusal
-  answer_by_lem : (lent k : ℕ) → refused top bottom most lent ≡ k → routed_by k (figures top bottom) ≡ answer top bottom most lent
+  -- the answer with a refusal
+  answer_refused : (lent : ℕ) (r : Refusal) → number r ≡ refused top bottom most lent → Err r ≡ answer top bottom most lent
   unfolding answer
-  answer_by_lem lent k e = ap (λ (z : ℕ). routed_by z (figures top bottom)) (sym e)
+  answer_refused lent r e = refused_is (refused top bottom most lent) (figures top bottom) r e
+
+  -- and with figures
+  answer_drawn : (lent : ℕ) (x : Figures) → refused top bottom most lent ≡ 0 → x ≡ figures top bottom → Ok x ≡ answer top bottom most lent
+  unfolding answer
+  answer_drawn lent x z e = accepted_is (refused top bottom most lent) (figures top bottom) x z e
 
   -- a routing call that is let through draws a solution
   solves : (old : List ℕ) → refused top bottom most (length old) ≡ 0 → Solves top bottom (written top bottom most old) (figures top bottom)
@@ -139,7 +142,7 @@ module _ (top bottom : List ℕ) (most : ℕ) where
   solves old q = record { solution = written_solution top bottom most old q; dense = refl; two_pin = λ e. rw e refl; three_pin = λ e. rw e refl; many_pin = λ e. rw e refl }
 
   -- all that a routing call promises, by its answer and its slice
-  pub promised : (old new : List ℕ) (r : Routed) → r ≡ answer top bottom most (length old) → new ≡ written top bottom most old
+  pub promised : (old new : List ℕ) (r : Result Figures Refusal) → r ≡ answer top bottom most (length old) → new ≡ written top bottom most old
       → (r ≡ answer top bottom most (length old)) × ((new ≡ written top bottom most old) × ((number_of r ≡ 0 → Solves top bottom new (figures_of r))
       × ((number_of r ≡ refused top bottom most (length old)) × (figures_of r ≡ if_accepted (number_of r) (figures top bottom) no_figures))))
   promised old new r er en =
@@ -159,31 +162,30 @@ module _ (top bottom : List ℕ) (most : ℕ) where
 
   module _ (old : List ℕ) where
     -- rows that are refused
-    pub rows_refused_lem : (k : ℕ) → refused_within top bottom most ≡ k → k ≢ 0
-        → (routed.Refused k ≡ answer top bottom most (length old)) × (old ≡ written top bottom most old)
-    rows_refused_lem zero e n = absurd (n refl)
-    rows_refused_lem (suc k) e n =
-        let q : refused top bottom most (length old) ≡ suc k = refuses top bottom most (length old) (suc k) e n in
-        (answer_by_lem (length old) (suc k) q, sym (written_refused top bottom most old (λ z. omega arith)))
+    pub rows_refused_lem : (r : Refusal) → number r ≡ refused_within top bottom most
+        → (Err r ≡ answer top bottom most (length old)) × (old ≡ written top bottom most old)
+    rows_refused_lem r e =
+        let q : refused top bottom most (length old) ≡ number r = refuses top bottom most (length old) (number r) (sym e) (number_nonzero r) in
+        (answer_refused (length old) r (sym q), sym (written_refused top bottom most old (λ z. number_nonzero r (sym q ∙ z))))
 
     -- a slice that is too short
     pub slice_refused : refused_within top bottom most ≡ 0 → length old < slice_length top bottom
-        → (routed.Refused 8 ≡ answer top bottom most (length old)) × (old ≡ written top bottom most old)
+        → (Err LayoutTooShort ≡ answer top bottom most (length old)) × (old ≡ written top bottom most old)
     slice_refused e h =
         let q : refused top bottom most (length old) ≡ 8 = too_short top bottom most (length old) e h in
-        (answer_by_lem (length old) 8 q, sym (written_refused top bottom most old (λ z. omega arith)))
+        (answer_refused (length old) LayoutTooShort (sym q), sym (written_refused top bottom most old (λ z. omega arith)))
 
     -- a channel that is drawn
     pub channel_drawn : (new : List ℕ) (d t w : ℕ) → refused_within top bottom most ≡ 0 → Drawing.width t top bottom * (2 * t + 1) ≤ length old → d ≡ density top bottom → t ≡ tracks top bottom → w ≡ Drawing.width t top bottom
         → new ≡ Drawing.layout t top bottom ++ drop (w * (2 * t + 1)) old
-        → (routed.Drawn (record { density = d; tracks = t; width = w }) ≡ answer top bottom most (length old)) × (new ≡ written top bottom most old)
+        → (Ok (record { density = d; tracks = t; width = w }) ≡ answer top bottom most (length old)) × (new ≡ written top bottom most old)
     unfolding figures
     channel_drawn new d t w e h ed et v n =
         let ew : w ≡ width top bottom = v ∙ ap (λ (k : ℕ). Drawing.width k top bottom) et in
         let en : new ≡ layout top bottom ++ drop (w * (2 * t + 1)) old = n ∙ ap (λ (k : ℕ). Drawing.layout k top bottom ++ drop (w * (2 * t + 1)) old) et in
         let q : refused top bottom most (length old) ≡ 0 = passes top bottom most (length old) e (subst (λ (m : ℕ). m ≤ length old) (length_by top bottom t _ et refl) h) in
         let s : w * (2 * t + 1) ≡ length (layout top bottom) = cc (layout-length top bottom (accepted top bottom most e)) in
-        (cc (answer_by_lem (length old) 0 q), en ∙ ap (λ (z : ℕ). layout top bottom ++ drop z old) s ∙ sym (written_drawn top bottom most old q))
+        (answer_drawn (length old) _ q (cc), en ∙ ap (λ (z : ℕ). layout top bottom ++ drop z old) s ∙ sym (written_drawn top bottom most old q))
 
 -- a slice of the formula's length holds the drawing, whose width is n and half the tracks at most
 pub formula_enough : (top bottom : List ℕ) (t lent : ℕ) → Drawing.width t top bottom ≤ length top + t / 2 → formula_length (length top) t ≤ lent → Drawing.width t top bottom * (2 * t + 1) ≤ lent

@@ -1,7 +1,7 @@
 -- A column's entries, as the writer fills them in.
-use Prim.Native.Nat.{ℕ, ◌+◌, ◌*◌, ◌≤◌, ◌<◌, max}
+use Prim.Native.Nat.{ℕ, ◌+◌, ◌≤◌, ◌<◌, max}
 use mathlib.Core.Path.{◌≡◌, refl, sym, ap, ◌∙◌}
-use mathlib.Core.List.{List, ◌++◌, append-nil}
+use mathlib.Core.List.{List, ◌++◌}
 use mathlib.Core.Logic.{◌⊎◌, inl, inr, ⊎_elim}
 use mathlib.Core.Bool.{Bool, true, false, ◌||◌}
 use lib.Dec.{eqb, ltb, leb}
@@ -13,8 +13,8 @@ use Rattle.sweep.proofs.Columns.Entries.{get_or-listed, length-listed, verticals
 use native.Mathlib.Nat.{zero-add}
 use native.Mathlib.Numerals.{add-one}
 use native.Mathlib.Omega.{arith}
-use lib.ListN.{length, length-set, take, drop, get_or, set, length-drop, drop_of_length-le}
-use lib.Seq.{paste, paste-zero, paste-suc, get_or-drop, take_all, take_at}
+use lib.ListN.{length, take, drop, get_or, set}
+use lib.Seq.{paste, paste-zero, paste-suc, take_all, take_at}
 use Rattle.grid.specs.declared.Segments.{Segments}
 use Rattle.grid.specs.Segments.{segment}
 use Rattle.sweep.specs.declared.Action.{Action}
@@ -66,43 +66,30 @@ pub two_runs_lem : (q a m b p k : ℕ) → a ≡ b → runs q a m b p k ≡ two_
 two_runs_lem q a m b p k e = ⊎_elim (λ (h : k < a). rw (lt-ltb k a h) refl) (λ (h : a ≤ k). rw (le-ltb k a h, le-ltb k b (omega arith)) refl) (below_or k a)
 
 -- s holds f k at each index k below i, and what d holds from there on; the entries to write are n
-abbrev pub Written : (f : ℕ → ℕ) (d : List ℕ) (n i k : ℕ) (s : List ℕ) → Type 0
-Written f d n i k s = (i ≤ n) × (k ≡ i) × (s ≡ paste d 0 (values_from n 0 f) i) × (length s ≡ length d)
+abbrev pub Written : (f : ℕ → ℕ) (d : List ℕ) (n i : ℕ) (s : List ℕ) → Type 0
+Written f d n i s = s ≡ paste d 0 (values_from n 0 f) i
 
 -- no entry
-pub written_none : (f : ℕ → ℕ) (d : List ℕ) (n : ℕ) → Written f d n 0 0 d
-written_none f d n = (omega arith, refl, paste-zero d 0 (values_from n 0 f), refl)
+pub written_none : (f : ℕ → ℕ) (d : List ℕ) (n : ℕ) → Written f d n 0 d
+written_none f d n = paste-zero d 0 (values_from n 0 f)
 
 -- one entry more
-pub written_next : (f : ℕ → ℕ) (d : List ℕ) (n i k : ℕ) (s : List ℕ) (v : ℕ) → Written f d n i k s → v ≡ f k → i < n → i < length d → Written f d n (i + 1) (k + 1) (set s i v)
-written_next f d n i k s v w e h l =
-    let g : v ≡ get_or (values_from n 0 f) i 0 = e ∙ ap f w.1 ∙ sym (get_or-listed n 0 i f h ∙ ap f (zero-add i)) in
+pub written_next : (f : ℕ → ℕ) (d : List ℕ) (n i : ℕ) (s : List ℕ) (v : ℕ) → Written f d n i s → v ≡ f i → i < n → i < length d → Written f d n (i + 1) (set s i v)
+written_next f d n i s v w e h l =
+    let g : v ≡ get_or (values_from n 0 f) i 0 = e ∙ sym (get_or-listed n 0 i f h ∙ ap f (zero-add i)) in
     let p = paste-suc d 0 (values_from n 0 f) i 0 (omega arith) (omega (arith, length-listed n 0 f)) in
-    let u = w.2 in
-    (omega arith, omega arith, cc (p, zero-add i, add-one i), length-set s i v ∙ w.3)
+    cc (w, g, p, zero-add i, add-one i)
 
 -- all entries
-pub written_all : (f : ℕ → ℕ) (d : List ℕ) (n i k : ℕ) (s : List ℕ) → Written f d n i k s → n ≤ i → s ≡ values_from n 0 f ++ drop n d
-written_all f d n i k s w h =
-    let e : i ≡ n = omega arith in
-    let u = w.2 in
-    cc (take_all n (values_from n 0 f) (omega (arith, length-listed n 0 f)), zero-add n)
+pub written_all : (f : ℕ → ℕ) (d : List ℕ) (n i : ℕ) (s : List ℕ) → Written f d n i s → i ≡ n → s ≡ values_from n 0 f ++ drop n d
+written_all f d n i s w e =
+    cc (w, e, take_all n (values_from n 0 f) (omega (arith, length-listed n 0 f)), zero-add n)
 
 -- they are the verticals, where f k is the edge above row k
 pub verticals_by : (f : ℕ → ℕ) (d s : List ℕ) (t : ℕ) (x : Action) → ((k : ℕ) → f k ≡ segment x.wires k) → s ≡ values_from (t + 1) 0 f ++ drop (t + 1) d → s ≡ verticals t x ++ drop (t + 1) d
 unfolding verticals
 verticals_by f d s t x h e =
     e ∙ ap (λ (l : List ℕ). l ++ drop (t + 1) d) (λ i. values_from (add-one t i) 0 (λ k. h k i))
-
--- one track more
-pub copied : (d tr s : List ℕ) (t i : ℕ) → s ≡ paste d (t + 1) (drop 1 tr) i → t + 1 + i < length d → 1 + i < length tr
-    → set s (t + 1 + i) (get_or tr (1 + i) 0) ≡ paste d (t + 1) (drop 1 tr) (i + 1)
-copied d tr s t i e h l = cc (paste-suc d (t + 1) (drop 1 tr) i 0 h (omega (arith, length-drop 1 tr)), get_or-drop 1 tr i 0, add-one i)
-
--- all tracks
-pub copied_all : (d tr s : List ℕ) (t i : ℕ) → s ≡ paste d (t + 1) (drop 1 tr) i → i ≡ t → length d ≡ 2 * t + 1 → s ≡ take (t + 1) d ++ take t (drop 1 tr)
-copied_all d tr s t i e f h =
-    cc (drop_of_length-le d {i = t + 1 + t} (omega arith), append-nil (take (t + 1) d ++ take t (drop 1 tr)))
 
 -- the verticals and the tracks are the column
 pub column_whole : (d e f tr : List ℕ) (t : ℕ) (x : Action) → e ≡ verticals t x ++ drop (t + 1) d → f ≡ take (t + 1) e ++ take t (drop 1 tr) → f ≡ verticals t x ++ take t (drop 1 tr)

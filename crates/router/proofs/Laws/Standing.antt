@@ -94,6 +94,11 @@ module _ {tp bt : List ℕ} {t c : ℕ} {up lo first last a f low high number s 
     keeps = λ v. record { holds = g.keeps.holds; marked = any_wide g.keeps.marked v };
   }
 
+-- the same of arrays that are equal to those
+pub standing_as : {tp bt : List ℕ} {t c : ℕ} {up lo first last a f low high number s a' f' low' high' number' s' : List ℕ} → Standing tp bt t c up lo first last a f low high number s
+    → a' ≡ a → f' ≡ f → low' ≡ low → high' ≡ high → number' ≡ number → s' ≡ s → Standing tp bt t c up lo first last a' f' low' high' number' s'
+standing_as S ea ef el eh en es = rw (ea, ef, el, eh, en, es) S
+
 -- AS THE SWEEP BEGINS the arrays stand for a channel with no column drawn
 pub standing_begins : {tp bt : List ℕ} {t : ℕ} {up lo first last a f low high number s : List ℕ} → rows_refused tp bt 256 ≡ 0 → family tp bt ≡ TwoPin
     → density tp bt ≤ t → t ≤ 256 → up ≡ padded tp → lo ≡ padded bt → first ≡ table (first_column tp bt) → last ≡ table (last_column tp bt)

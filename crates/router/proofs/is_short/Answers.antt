@@ -9,7 +9,7 @@ use Rattle.router.proofs.is_short.Goals as goal
 
 pub returns-then-enough-lent : goal.returns-then-enough-lent
 returns-then-enough-lent c =
-    sym (le-ltb c.args.lent _ (formula_enough c.args.top.now c.args.bottom.now c.args.t c.args.lent c.requires.bottom_in_bounds (omega (arith, c.if-enough-lent.true, c.formula_length-enough.ensures))))
+    sym (le-ltb c.args.lent _ (formula_enough c.args.top.now c.args.bottom.now c.args.plan.now.t c.args.lent c.requires.narrow (omega (arith, c.if-enough-lent.true, c.formula_length-enough.ensures))))
 
 pub slice_length-needed-requires : goal.slice_length-needed-requires
 slice_length-needed-requires c = c.requires

@@ -1,56 +1,52 @@
--- `need` meets its contract: the rows' number, or the slice length of the drawing.
-use Rattle.router.proofs.Laws.Calls.{tracks_by, sweep_ready, need_refused, need_stated, need_promised}
-use Rattle.grid.proofs.OpenNets.{density_small}
-use Rattle.router.specs.declared.Length.TheVariants.{Refused}
-use Rattle.grid.proofs.Answers.{told, refused, accepted_new}
-use Rattle.grid.specs.Channel.{rows_refused}
-use mathlib.Core.Path.{refl, ap, subst, sym, ◌∙◌}
+-- `need` meets its contract: the rows' refusal, or the slice length of the drawing.
 use Prim.Native.Nat.{ℕ, ◌≤◌}
+use mathlib.Core.Path.{refl, ap, subst, sym, ◌∙◌}
+use Rattle.grid.specs.declared.NetFacts.{NetFacts}
+use Rattle.grid.proofs.Numbers.{passed_on}
+use Rattle.grid.proofs.OpenNets.{density_small}
+use Rattle.grid.proofs.Answers.{told_facts}
+use Rattle.router.proofs.Laws.Calls.{tracks_by, sweep_ready, need_refused, need_stated, need_promised}
 use Rattle.router.proofs.need.Goals as goal
 
--- the clauses by their names
-named-answer-number-entries : {A0 A1 A2 : Type 0} → A0 × (A1 × A2) → record { answer : A0; number : A1; entries : A2 }
-named-answer-number-entries p = record { answer = p.0; number = p.1.0; entries = p.1.1 }
-
-pub returns-in_default : goal.returns-in_default
-returns-in_default c =
-    let a = c.args in
-    let top = a.top.now in
-    let bottom = a.bottom.now in
-    let f = c.net_facts-r in
-    let n = refused top bottom 256 f.result _ f.ensures.answer c.in_default.is in
-    named-answer-number-entries (need_promised top bottom _ (ap Refused (c.number_of.ensures ∙ f.ensures.number) ∙ need_refused top bottom (rows_refused top bottom 256) refl n))
+pub returns-in_err-facts : goal.returns-in_err-facts
+returns-in_err-facts c =
+    let top = c.args.top.now in
+    let bottom = c.args.bottom.now in
+    let e = c.in_err-facts.field-0.0 in
+    let p = need_promised top bottom _ (passed_on _ e c.from_residual.ensures.1 ∙ need_refused top bottom e c.in_err-facts.ensures.number) in record {
+      answer = p.0;
+      number = p.1.0;
+      entries = p.1.1;
+    }
 
 pub tracks_of-t-requires : goal.tracks_of-t-requires
 tracks_of-t-requires c =
-    let a = c.args in
-    let top = a.top.now in
-    let bottom = a.bottom.now in
-    let f = c.net_facts-r in
-    let s = told top bottom 256 f.result _ f.ensures.answer c.in-Fit.is in
-    subst (λ (d : ℕ). d ≤ 256) (sym s.figure) (density_small top bottom)
-
--- the clauses by their names
-named-ready-each_fits-bottom_in_bounds : {A0 A1 A2 : Type 0} → A0 × (A1 × A2) → record { ready : A0; each_fits : A1; bottom_in_bounds : A2 }
-named-ready-each_fits-bottom_in_bounds p = record { ready = p.0; each_fits = p.1.0; bottom_in_bounds = p.1.1 }
+    let top = c.args.top.now in
+    let bottom = c.args.bottom.now in
+    let f = told_facts top bottom 256 _ _ c.in_ok-facts.ensures.answer refl in
+    subst (λ (d : ℕ). d ≤ 256) (sym (ap (λ (f : NetFacts). f.size.density) f.1)) (density_small top bottom)
 
 pub slice_length-requires : goal.slice_length-requires
 slice_length-requires c =
-    let a = c.args in
-    let top = a.top.now in
-    let bottom = a.bottom.now in
-    let f = c.net_facts-r in
-    let s = told top bottom 256 f.result _ f.ensures.answer c.in-Fit.is in
-    let t = tracks_by top bottom _ _ _ s.figure s.family c.tracks_of-t.ensures in
-    let z = f.ensures.number ∙ s.number in
-    named-ready-each_fits-bottom_in_bounds (sweep_ready top bottom s.number t s.family (f.ensures.first ∙ accepted_new _ _ _ z) (f.ensures.last ∙ accepted_new _ _ _ z))
+    let top = c.args.top.now in
+    let bottom = c.args.bottom.now in
+    let f = told_facts top bottom 256 _ _ c.in_ok-facts.ensures.answer refl in
+    let p = ap (λ (f : NetFacts). f.size.family) f.1 in
+    let t = tracks_by top bottom _ _ _ (ap (λ (f : NetFacts). f.size.density) f.1) p c.tracks_of-t.ensures in
+    let r = sweep_ready top bottom f.0 t p (ap (λ (f : NetFacts). f.first) f.1) (ap (λ (f : NetFacts). f.last) f.1) in record {
+      planned = r.0;
+      each_fits = r.1.0;
+      narrow = r.1.1;
+    }
 
 pub returns : goal.returns
 returns c =
-    let a = c.args in
-    let top = a.top.now in
-    let bottom = a.bottom.now in
-    let f = c.net_facts-r in
-    let s = told top bottom 256 f.result _ f.ensures.answer c.in-Fit.is in
-    let t = tracks_by top bottom _ _ _ s.figure s.family c.tracks_of-t.ensures in
-    named-answer-number-entries (need_promised top bottom _ (need_stated top bottom _ _ s.number t c.slice_length.ensures))
+    let top = c.args.top.now in
+    let bottom = c.args.bottom.now in
+    let f = told_facts top bottom 256 _ _ c.in_ok-facts.ensures.answer refl in
+    let t = tracks_by top bottom _ _ _ (ap (λ (f : NetFacts). f.size.density) f.1) (ap (λ (f : NetFacts). f.size.family) f.1) c.tracks_of-t.ensures in
+    let p = need_promised top bottom _ (need_stated top bottom _ _ f.0 t c.slice_length.ensures) in record {
+      answer = p.0;
+      number = p.1.0;
+      entries = p.1.1;
+    }

@@ -11,4 +11,4 @@ pub returns-in-ThreePin : goal.returns-in-ThreePin
 returns-in-ThreePin c = sym (ap (λ (f : Family). tracks_of f c.args.d) c.in-ThreePin.is)
 
 pub returns-in-ManyPin : goal.returns-in-ManyPin
-returns-in-ManyPin c = c.less_one.ensures ∙ sym (ap (λ (f : Family). tracks_of f c.args.d) c.in-ManyPin.is)
+returns-in-ManyPin c = c.saturating_sub.ensures ∙ sym (ap (λ (f : Family). tracks_of f c.args.d) c.in-ManyPin.is)

@@ -4,26 +4,21 @@ use lib.ListN.{length}
 use Rattle.widest.proofs.Answers.{refused_4, refused_5, refused_none, top_written, bottom_written, promise_met}
 use Rattle.widest.proofs.write.Goals as goal
 
--- the clauses by their names
-named-answer-number-columns-top-bottom : {A0 A1 A2 A3 A4 : Type 0} → A0 × (A1 × (A2 × (A3 × A4))) → record { answer : A0; number : A1; columns : A2; top : A3; bottom : A4 }
-named-answer-number-columns-top-bottom p = record { answer = p.0; number = p.1.0; columns = p.1.1.0; top = p.1.1.1.0; bottom = p.1.1.1.1 }
-
 pub returns-then-n-bottom : goal.returns-then-n-bottom
 returns-then-n-bottom c =
     let a = c.args in
-    named-answer-number-columns-top-bottom (promise_met a.top.now a.bottom.now 4 (refused_4 (length a.top.now) (length a.bottom.now) c.if-n-bottom.true) _ _ _ refl refl refl)
+    promise_met a.top.now a.bottom.now 4 (refused_4 (length a.top.now) (length a.bottom.now) c.if-n-bottom.true) _ _ _ refl refl refl
 
 pub returns-then-n-gt256 : goal.returns-then-n-gt256
 returns-then-n-gt256 c =
     let a = c.args in
-    named-answer-number-columns-top-bottom (promise_met a.top.now a.bottom.now 5 (refused_5 (length a.top.now) (length a.bottom.now) c.if-n-bottom.false c.if-n-gt256.true) _ _ _ refl refl
-    refl)
+    promise_met a.top.now a.bottom.now 5 (refused_5 (length a.top.now) (length a.bottom.now) c.if-n-bottom.false c.if-n-gt256.true) _ _ _ refl refl refl
 
 pub returns : goal.returns
 returns c =
     let a = c.args in
     let n = length a.top.now in
     let same = c.if-n-bottom.false in
-    named-answer-number-columns-top-bottom (promise_met a.top.now a.bottom.now 0 (refused_none n (length a.bottom.now) same c.if-n-gt256.false) _ _ _ refl
+    promise_met a.top.now a.bottom.now 0 (refused_none n (length a.bottom.now) same c.if-n-gt256.false) _ _ _ refl
     (top_written n _ c.write_halves.ensures)
-    (bottom_written n (length a.bottom.now) _ same c.write_halves-2.ensures))
+    (bottom_written n (length a.bottom.now) _ same c.write_halves-2.ensures)

@@ -1,10 +1,8 @@
-use Prim.Native.Nat.{◌-◌, ◌≤◌}
+use Prim.Native.Nat.{max}
 use mathlib.Core.Path.{◌≡◌}
-use Rattle.board.specs.Working.{largest_in}
+use lib.ListN.{take}
+use Rattle.std.specs.List.{fold}
 use Rattle.board.proofs.counts.largest.Given as goal
 
-abbrev pub invariant-loop-k : goal.invariant-loop-k
-invariant-loop-k l = (l.k ≤ l.n) × (l.most ≡ largest_in l.counts l.k)
-
-abbrev pub decreases-loop-k : goal.decreases-loop-k
-decreases-loop-k l = l.n - l.k
+abbrev pub invariant-loop-count : goal.invariant-loop-count
+invariant-loop-count l = l.most ≡ fold max 0 (take l.count-index l.counts)

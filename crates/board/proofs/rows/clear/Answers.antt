@@ -1,28 +1,20 @@
--- `clear` meets its contract. The invariant: the first i places are cleared.
+-- `clear` meets its contract: the places passed are cleared.
 use Prim.Native.Nat.{ℕ}
-use mathlib.Core.Path.{◌≡◌, refl, sym, ap, ◌∙◌}
-use lib.ListN.{length, length-set}
-use Rattle.board.proofs.Loops.{cleared_to, clearing_none, clearing_next, clearing_all}
+use mathlib.Core.Path.{◌≡◌, ap, ◌∙◌}
 use native.Mathlib.Omega.{arith}
+use lib.ListN.{get_or, set}
+use Rattle.std.proofs.lemmas.List.{get_or_default}
+use Rattle.std.proofs.lemmas.List.Edits.{map_over_more}
+use Rattle.std.proofs.lemmas.Bool.Decides.{nat_tests}
+use Rattle.board.proofs.Without.{rest_of}
 use Rattle.board.proofs.rows.clear.Goals as goal
+use Rattle.board.proofs.rows.clear.Goals.{then-pin-net, else-pin-net}
 
-pub loop-i-init : goal.loop-i-init
-loop-i-init c = (omega arith, refl, sym (clearing_none c.args.net c.args.row.now))
-
-pub loop-i-preserved : goal.loop-i-preserved
-loop-i-preserved c =
-    let h = c.loop-i in
-    let a = c.args in (
-      omega arith,
-      length-set h.row h.i c.rest.result ∙ h.invariant.1,
-      clearing_next a.net h.i c.rest.result a.row.now h.row (omega arith) h.invariant.2 c.rest.ensures,
-    )
-
-pub shape_of-row : goal.shape_of-row
-shape_of-row c = c.loop-i.invariant.1
-
-pub returns : goal.returns
-returns c =
-    let a = c.args in
-    let i : c.loop-i.i ≡ length a.row.now = omega arith in
-    c.loop-i.invariant.2 ∙ ap (λ (k : ℕ). cleared_to a.net k a.row.now) i ∙ clearing_all a.net a.row.now
+pub loop-pin-preserved : goal.loop-pin-preserved
+loop-pin-preserved c =
+    let h = c.loop-pin in
+    let x : ℕ = get_or h.row h.pin-index (get_or h.row h.pin-index 0) in
+    let same : get_or h.row h.pin-index 0 ≡ x = get_or_default h.row h.pin-index 0 (get_or h.row h.pin-index 0) (omega arith) in
+    let e : c.if-pin-net.pin ≡ rest_of c.args.net (get_or h.row h.pin-index 0) =
+    elim c.if-pin-net.branch [ then-pin-net w ↦ grind (arith, nat_tests) | else-pin-net w ↦ grind (arith, nat_tests) ] in
+    ap (set h.row h.pin-index) e ∙ map_over_more (rest_of c.args.net) c.args.row.now h.row h.pin-index (get_or h.row h.pin-index 0) (omega arith) h.invariant same

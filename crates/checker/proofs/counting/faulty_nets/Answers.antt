@@ -4,7 +4,7 @@ use Prim.Native.Nat.{ℕ}
 use native.Mathlib.Omega.{arith}
 use lib.ListN.{replicate, length-replicate, get_or-replicate}
 use Rattle.checker.specs.Working.{PerNet}
-use Rattle.checker.proofs.Least.{least_same}
+use Rattle.checker.proofs.Least.{first_same}
 use Rattle.checker.proofs.counting.Counts.{per_net_mono}
 use Rattle.checker.proofs.counting.Positions.{within_short}
 use Rattle.checker.proofs.counting.Splits.{in_pieces-split}
@@ -29,6 +29,6 @@ find_in_pieces-requires c =
 pub returns : goal.returns
 returns c =
     let e = c.count_pieces-loose.ensures in record {
-      split_value = c.find_in_pieces.ensures ∙ least_same 257 _ _ (in_pieces-split _ _ _ _ _ c.requires e.counted_all);
+      split_value = c.find_in_pieces.ensures ∙ first_same 257 _ _ (in_pieces-split _ _ _ _ _ c.requires e.counted_all);
       lowest_loose = e.lowest_loose;
     }

@@ -1,4 +1,4 @@
-use Prim.Native.Nat.{◌+◌, ◌-◌}
+use Prim.Native.Nat.{◌+◌}
 use mathlib.Core.Path.{◌≡◌}
 use lib.ListN.{get_or}
 use Rattle.checker.specs.Working.{Crossings}
@@ -6,6 +6,3 @@ use Rattle.checker.proofs.counting.next_meeting.Given as goal
 
 abbrev pub invariant-loop-k : goal.invariant-loop-k
 invariant-loop-k l = (get_or l.layout (l.b + l.k) 0 ≡ l.vd) × Crossings l.layout l.t l.b l.q l.j l.k
-
-abbrev pub decreases-loop-k : goal.decreases-loop-k
-decreases-loop-k l = l.t - l.k

@@ -1,20 +1,6 @@
 -- `checker::ends::lowest_alone` meets its contract: nets only cross, or the least of the four.
-use Rattle.checker.specs.Working.{lowest_alone}
 use Rattle.checker.proofs.ends.Alone.{alone_crossing}
 use Rattle.checker.proofs.ends.lowest_alone.Goals as goal
 
 pub returns-then-left-right : goal.returns-then-left-right
 returns-then-left-right c = alone_crossing _ _ _ _ c.if-below-above.true c.if-left-right.true
-
-pub returns : goal.returns
-unfolding lowest_alone
-returns c =
-    rw (
-      c.lesser.ensures,
-      c.lesser-v.ensures,
-      c.alone_net.ensures,
-      c.alone_net-2.ensures,
-      c.lesser-h.ensures,
-      c.alone_net-3.ensures,
-      c.alone_net-4.ensures,
-    )

@@ -1,14 +1,12 @@
 -- `checker::entries::known_numbers` meets its contract: the marks below `v` are right.
-use native.Mathlib.Omega.{arith}
 use Rattle.checker.proofs.entries.Nets.{marks_start, marks_more, marks_all}
 use Rattle.checker.proofs.entries.known_numbers.Goals as goal
 
 pub loop-v-init : goal.loop-v-init
-loop-v-init c = (omega arith, marks_start _)
+loop-v-init c = marks_start _
 
 pub loop-v-preserved : goal.loop-v-preserved
-loop-v-preserved c =
-    (omega arith, marks_more _ _ _ c.loop-v.invariant.1 c.loop-v.invariant.0 c.loop-v-test.true)
+loop-v-preserved c = marks_more _ _ _ c.loop-v.invariant c.loop-v.auto.v c.loop-v-test.true
 
 pub returns : goal.returns
-returns c = marks_all _ _ _ c.loop-v.invariant.1 c.loop-v-test.false
+returns c = marks_all _ _ _ c.loop-v.invariant c.loop-v-test.false

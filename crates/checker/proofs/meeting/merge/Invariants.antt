@@ -1,9 +1,5 @@
-use Prim.Native.Nat.{◌≤◌, ◌-◌}
 use Rattle.checker.proofs.counting.Arrays.{Merging}
 use Rattle.checker.proofs.meeting.merge.Given as goal
 
-abbrev pub invariant-loop-k : goal.invariant-loop-k
-invariant-loop-k l = (l.k ≤ l.t) × Merging l.old l.new l.initial.lab l.lab l.k
-
-abbrev pub decreases-loop-k : goal.decreases-loop-k
-decreases-loop-k l = l.t - l.k
+abbrev pub invariant-loop-label : goal.invariant-loop-label
+invariant-loop-label l = Merging l.old l.new l.initial.label-items l.label-items l.label-index

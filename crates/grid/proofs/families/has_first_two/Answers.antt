@@ -9,4 +9,4 @@ use Rattle.grid.proofs.families.has_first_two.Goals as goal
 pub returns : goal.returns
 returns c =
     let a = c.args in
-    ap (λ (v : ℕ). not (eqb a.p 0) && (eqb a.p a.q && (eqb (get_or a.pins.now v 0) 3 && eqb (get_or a.first.now v 0) a.c))) c.as_index-v.ensures
+    ap (λ (v : ℕ). not (eqb a.p 0) && (eqb a.p a.q && (eqb (get_or a.pins.now v 0) 3 && eqb (get_or a.first.now v 0) a.c))) c.from-v.ensures

@@ -1,15 +1,15 @@
--- `grid::scan::has_over` meets its contract: what is found so far, or stands in the rest, stands in the row.
-use mathlib.Core.Path.{refl, ◌∙◌}
-use Rattle.grid.proofs.Scanning.{over_more, over_end}
-use native.Mathlib.Omega.{arith}
+-- `grid::scan::has_over` meets its contract: a number over 256 found so far stays found.
+use mathlib.Core.Path.{◌∙◌}
+use mathlib.Core.Bool.{false, ◌||◌}
+use lib.Dec.{ltb}
+use borrow.Author.Tests.{tests}
+use Rattle.std.proofs.Common.{rules}
+use Rattle.std.proofs.lemmas.Iterator.{YieldsList-from_slice}
+use Rattle.std.proofs.lemmas.Iterator.Consumers.{fold_from_yields_List}
+use Rattle.grid.proofs.Scanning.{over_fold}
 use Rattle.grid.proofs.scan.has_over.Goals as goal
 
-pub loop-i-init : goal.loop-i-init
-loop-i-init c = (omega arith, refl)
-
-pub loop-i-preserved : goal.loop-i-preserved
-loop-i-preserved c =
-    (omega arith, over_more c.loop-i.found c.args.row.now c.loop-i.i (omega arith) ∙ c.loop-i.invariant.1)
-
 pub returns : goal.returns
-returns c = over_end c.loop-i.found c.args.row.now c.loop-i.i c.loop-i-test.false ∙ c.loop-i.invariant.1
+returns c =
+    fold_from_yields_List _ (λ found x. found || ltb 256 x) false c.fold.result c.fold.ensures.ran (YieldsList-from_slice c.args.row.now (cc)) (λ found x r f k. search (rules, tests))
+    ∙ over_fold false c.args.row.now

@@ -1,64 +1,42 @@
 -- `grid::spans::count_pins` meets its contract: the pins of the columns passed are counted.
-use Prim.Native.Nat.{◌≤◌, ◌<◌}
-use mathlib.Core.Path.{◌≡◌, sym, ◌∙◌}
-use lib.ListN.{get_or}
-use Rattle.grid.proofs.Scanning.{none_over}
-use Rattle.grid.proofs.Tables.{counted_none, first_pin_room, second_pin_room, counted_column, counted_all, zero_table-length}
+use Prim.Native.Nat.{ℕ}
+use mathlib.Core.Path.{refl, subst, sym}
+use lib.ListN.{length, length-append}
+use Rattle.std.proofs.lemmas.Slice.Zip.{zip_turn, zip_end}
+use Rattle.grid.proofs.Scanning.{Passed, passed, passed_as}
+use Rattle.grid.proofs.Tables.{Counted, counted_none, first_pin_room, second_pin_room, counted_column, counted_all}
 use native.Mathlib.Omega.{arith}
 use Rattle.grid.proofs.spans.count_pins.Goals as goal
-use Rattle.grid.proofs.spans.count_pins.Goals.{After-as_index, After-as_index-in-loop-i, In-loop-i}
+use Rattle.grid.proofs.spans.count_pins.Goals.{In-Some, After-from-in-loop-p}
 
--- the nets of the two pins
-top-pin : (c : After-as_index) → c.as_index.result ≡ get_or c.args.top.now c.loop-i.i 0
-top-pin c = c.as_index.ensures
+-- the column of this turn, and its pins as indices
+turn : (c : In-Some) → Passed c.args.top.now c.args.bottom.now (length c.loop-p.yielded) c.in-Some.field-0-0.now c.in-Some.field-0-1.now
+turn c =
+    let t = zip_turn c.args.top.now c.args.bottom.now c.loop-p.yielded c.into_iter-p-iterator.result c.loop-p.p-iterator c.next.new.self c.next.result (cc) (cc) c.loop-p.yielded_by
+    (c.in-Some.field-0-0, c.in-Some.field-0-1) c.in-Some.is c.next.ensures.steps in
+    passed _ _ _ _ _ c.requires.0 t.0 (t.2 0) (t.3 0)
 
-bottom-pin : (c : After-as_index-in-loop-i) → c.as_index-in-loop-i.result ≡ get_or c.args.bottom.now c.loop-i.i 0
-bottom-pin c = c.as_index-in-loop-i.ensures
+pins : (c : After-from-in-loop-p) → Passed c.args.top.now c.args.bottom.now (length c.loop-p.yielded) c.from.result c.from-in-loop-p.result
+pins c = passed_as _ _ _ _ _ _ _ (turn (goal.at.After-from-in-loop-p c).In-Some) c.from.ensures c.from-in-loop-p.ensures
 
-top-net : (c : After-as_index) → c.as_index.result ≤ 256
-top-net c =
-    omega (arith, top-pin c, none_over c.args.top.now c.loop-i.i c.requires.0.above)
-
-bottom-net : (c : After-as_index-in-loop-i) → c.as_index-in-loop-i.result ≤ 256
-bottom-net c =
-    omega (arith, bottom-pin c, none_over c.args.bottom.now c.loop-i.i c.requires.0.below)
-
--- fewer than 256 columns are passed
-few : (c : In-loop-i) → c.loop-i.i < 256
-few c = omega (arith, c.requires.0.short)
-
-pub loop-i-init : goal.loop-i-init
-loop-i-init c =
-    (omega arith, counted_none c.args.top.now c.args.bottom.now c.args.pins.now c.requires.1)
+pub loop-p-init : goal.loop-p-init
+loop-p-init c = counted_none c.args.top.now c.args.bottom.now c.args.pins.now c.requires.1
 
 pub count_pin-requires : goal.count_pin-requires
 count_pin-requires c =
-    let a = c.args in
-    let h = c.loop-i in
-    first_pin_room a.top.now a.bottom.now h.i h.pins h.invariant.1 (few (goal.at.count_pin-requires c).In-loop-i) c.as_index.result (top-net (goal.at.count_pin-requires c).After-as_index)
+    first_pin_room _ _ _ _ c.loop-p.invariant _ _ (passed_as _ _ _ _ _ _ _ (turn (goal.at.count_pin-requires c).In-Some) c.from.ensures refl)
 
-pub count_pin-requires-in-loop-i : goal.count_pin-requires-in-loop-i
-count_pin-requires-in-loop-i c =
-    let a = c.args in
-    let h = c.loop-i in
-    second_pin_room a.top.now a.bottom.now h.i h.pins h.invariant.1 (few (goal.at.count_pin-requires-in-loop-i c).In-loop-i) c.as_index.result (top-net (goal.at.count_pin-requires-in-loop-i c).After-as_index)
-    c.as_index-in-loop-i.result (bottom-net (goal.at.count_pin-requires-in-loop-i c).After-as_index-in-loop-i) _ c.count_pin.ensures
+pub count_pin-requires-in-loop-p : goal.count_pin-requires-in-loop-p
+count_pin-requires-in-loop-p c =
+    second_pin_room _ _ _ _ c.loop-p.invariant _ _ (pins (goal.at.count_pin-requires-in-loop-p c).After-from-in-loop-p) _ c.count_pin.ensures
 
-pub loop-i-preserved : goal.loop-i-preserved
-loop-i-preserved c =
+pub loop-p-preserved : goal.loop-p-preserved
+loop-p-preserved c =
     let a = c.args in
-    let h = c.loop-i in (
-      omega arith,
-      counted_column a.top.now a.bottom.now h.i h.pins h.invariant.1 (few (goal.at.loop-i-preserved c).In-loop-i) c.as_index.result (top-net (goal.at.loop-i-preserved c).After-as_index)
-          c.as_index-in-loop-i.result (bottom-net (goal.at.loop-i-preserved c).After-as_index-in-loop-i) _ c.count_pin.ensures
-          _ c.count_pin-in-loop-i.ensures (top-pin (goal.at.loop-i-preserved c).After-as_index) (bottom-pin (goal.at.loop-i-preserved c).After-as_index-in-loop-i),
-    )
-
-pub shape_of-pins : goal.shape_of-pins
-shape_of-pins c =
-    c.loop-i.invariant.1.nets.size ∙ sym (zero_table-length c.args.pins.now c.requires.1)
+    subst (λ (n : ℕ). Counted a.top.now a.bottom.now n c.count_pin-in-loop-p.new.pins) (sym (length-append c.loop-p.yielded _))
+    (counted_column _ _ _ _ c.loop-p.invariant _ _ (pins (goal.at.loop-p-preserved c).After-from-in-loop-p) _ c.count_pin.ensures _ c.count_pin-in-loop-p.ensures)
 
 pub returns : goal.returns
 returns c =
-    let h = c.loop-i in
-    counted_all c.args.top.now c.args.bottom.now h.i h.pins h.invariant.1 (omega arith) c.requires.0.same
+    let e = zip_end c.args.top.now c.args.bottom.now c.loop-p.yielded c.into_iter-p-iterator.result c.loop-p.p-iterator c.next.new.self c.next.result (cc) (cc) c.loop-p.yielded_by c.in-None.is c.next.ensures.steps in
+    counted_all c.args.top.now c.args.bottom.now (length c.loop-p.yielded) c.loop-p.pins c.loop-p.invariant (omega (arith, e, c.requires.0.same)) c.requires.0.same

@@ -1,38 +1,27 @@
 -- `report::lengths::added` meets its contract: the sums of the numbers passed.
+use Prim.Native.Nat.{ℕ}
 use Rattle.report.specs.Working.{four}
 use Rattle.report.proofs.Tallies.{summed_more}
-use Rattle.grid.proofs.Tables.{zero_table-length}
+use Rattle.std.proofs.lemmas.List.{length-replicate}
 use native.Mathlib.Omega.{arith}
 use Rattle.report.proofs.lengths.added.Goals as goal
 
-pub loop-k-init : goal.loop-k-init
-loop-k-init c = (omega arith, record { size = zero_table-length _ c.none-sums.ensures; done = λ v l. absurd (omega arith) })
+pub loop-v-init : goal.loop-v-init
+loop-v-init c = record { size = length-replicate {A = ℕ} 257 0; done = λ v l. absurd (omega arith) }
 
-pub overflow_add-sums : goal.overflow_add-sums
-overflow_add-sums c =
-    let k = c.loop-k.k in
-    let h = c.requires.most k in
-    omega arith
+pub overflow_add-sum : goal.overflow_add-sum
+overflow_add-sum c = let h = c.requires.most c.loop-v.v in omega arith
 
-pub overflow_add-sums-in-loop-k : goal.overflow_add-sums-in-loop-k
-overflow_add-sums-in-loop-k c =
-    let k = c.loop-k.k in
-    let h = c.requires.most k in
-    omega arith
+pub overflow_add-sum-in-loop-v : goal.overflow_add-sum-in-loop-v
+overflow_add-sum-in-loop-v c = let h = c.requires.most c.loop-v.v in omega arith
 
-pub overflow_add-sums-in-loop-k-2 : goal.overflow_add-sums-in-loop-k-2
-overflow_add-sums-in-loop-k-2 c =
-    let k = c.loop-k.k in
-    let h = c.requires.most k in
-    omega arith
+pub overflow_add-sum-in-loop-v-2 : goal.overflow_add-sum-in-loop-v-2
+overflow_add-sum-in-loop-v-2 c = let h = c.requires.most c.loop-v.v in omega arith
 
-pub loop-k-preserved : goal.loop-k-preserved
-loop-k-preserved c =
-    let l = c.loop-k in
+pub loop-v-preserved : goal.loop-v-preserved
+loop-v-preserved c =
     let a = c.args in
-    (omega arith, summed_more (four a.a.now a.b.now a.c.now a.d.now) l.k l.sums _ l.invariant.1 (omega arith) (omega arith))
+    summed_more (four a.a.now a.b.now a.c.now a.d.now) c.loop-v.v c.loop-v.sum-items _ c.loop-v.invariant (omega (arith, length-replicate {A = ℕ} 257 0)) (omega arith)
 
 pub returns : goal.returns
-returns c =
-    let l = c.loop-k in
-    (l.invariant.1.size, λ v h. l.invariant.1.done v (omega arith))
+returns c = (c.loop-v.invariant.size, λ v h. c.loop-v.invariant.done v (omega (arith, length-replicate {A = ℕ} 257 0)))

@@ -10,7 +10,7 @@ write_at-requires c =
 pub returns-then-drawing : goal.returns-then-drawing
 returns-then-drawing c h =
     let o = c.args in
-    let x = with_column o.t o.at o.x (tracks_in o.t o.tracks.now) o.layout.now in
+    let x = with_column o.t o.at o.x (tracks_in o.t o.tracks.now.nets.now) o.layout.now in
     column-drawn o.drawing x o.layout.now _ c.if-drawing.true (c.write_at.ensures h)
 
 pub returns-else-drawing : goal.returns-else-drawing

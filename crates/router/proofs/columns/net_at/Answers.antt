@@ -6,12 +6,12 @@ use Rattle.router.proofs.columns.net_at.Goals as goal
 
 pub returns-then-c-row : goal.returns-then-c-row
 returns-then-c-row c = record {
-  upper_bound = c.net_of.ensures.0;
-  value = c.net_of.ensures.1;
+  is_net = c.net_of.ensures.0;
+  pin = c.net_of.ensures.1;
 }
 
 pub returns : goal.returns
 returns c = record {
-  upper_bound = omega arith;
-  value = λ b. sym (get_or-eq_default c.args.row.now 0 c.if-c-row.false);
+  is_net = omega arith;
+  pin = λ b. sym (get_or-eq_default c.args.row.now 0 c.if-c-row.false);
 }

@@ -6,5 +6,5 @@ use Rattle.router.proofs.nets.next_net.Goals as goal
 
 pub returns : goal.returns
 returns c =
-    let e : c.args.v % 512 ≡ c.args.v = omega arith in
+    let e : c.from.result % 512 ≡ c.args.v = omega (arith, c.from.ensures) in
     record { place = c.above.result; least = rw e at c.above.ensures; is = refl }

@@ -1,5 +1,6 @@
 -- `draw_next` meets its contract: the arrays hold gap c, so the sweep leaves them at the next. The tests pass for no state that stands for a channel.
 use Rattle.router.proofs.Laws.Standing
+use Rattle.std.proofs.Common.{rules}
 use Rattle.router.proofs.Laws.Steps.{at_next}
 use Rattle.grid.proofs.Views.{product_le}
 use Prim.Native.Nat.{◌+◌, ◌*◌}
@@ -41,14 +42,15 @@ overflow_add-c-2 c =
     let k = Standing.neither_over 510 256 c.args.c c.args.t c.if-c-t.false in
     omega (arith, k.0)
 
-pub sweep_columns-requires : goal.sweep_columns-requires
-sweep_columns-requires c =
+pub columns-requires : goal.columns-requires
+columns-requires c =
     let k = Standing.neither_over 510 256 c.args.c c.args.t c.if-c-t.false in
     (omega arith, omega (arith, k.0), omega (arith, k.1), λ d. c.if-layout-c.false)
 
 pub returns : goal.returns
 returns c tp bt S h b f =
-    let s = c.sweep_columns in
-    let g = s.ensures tp bt (Standing.standing_tops S) (Standing.standing_bottoms S) (Standing.standing_ready S) (Standing.standing_fits S _)
-    (Standing.standing_at_gap S _ _ _) in
-    (Standing.standing_on S h g.0, g.1)
+    let g = c.columns.ensures.swept tp bt (Standing.standing_tops S) (Standing.standing_bottoms S) (Standing.standing_ready S)
+    (Standing.standing_fits S _) (Standing.standing_at_gap S _ _ _) in (
+      Standing.standing_as (Standing.standing_on S h g.0) (search rules) (search rules) (search rules) (search rules) (search rules) (search rules),
+      g.1,
+    )

@@ -15,4 +15,4 @@ shape_of-part c = c.copy_tracks.auto.part ∙ c.write_verticals.auto.part
 
 pub returns : goal.returns
 returns c e =
-    column_whole _ _ _ c.args.tracks.now _ _ c.write_verticals.ensures (c.copy_tracks.ensures e)
+    column_whole _ _ _ c.args.tracks.now.nets.now _ _ c.write_verticals.ensures (c.copy_tracks.ensures e)

@@ -1,5 +1,0 @@
--- `bottom_ends` meets its contract.
-use Rattle.rules.proofs.actions.bottom_ends.Goals as goal
-
-pub returns : goal.returns
-returns c = cc

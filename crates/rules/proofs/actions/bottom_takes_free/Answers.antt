@@ -1,5 +1,0 @@
--- `bottom_takes_free` meets its contract.
-use Rattle.rules.proofs.actions.bottom_takes_free.Goals as goal
-
-pub returns : goal.returns
-returns c = cc
