@@ -8,7 +8,7 @@ use native.Mathlib.Decide.{dec_lt}
 use lib.Dec.{ltb}
 use native.Mathlib.Omega.{arith}
 use native.Mathlib.Numerals.{add-one}
-use lib.ListN.{length, take, drop, get_or, length-append, length-drop}
+use lib.ListN.{length, take, drop, get_or}
 use lib.Seq.{take-suc, take_all, take_at, drop_at, drop-drop, length-take-le}
 use Rattle.std.specs.Prelude.{Ok, Err}
 use Rattle.std.proofs.lemmas.List.{drop_all}
@@ -55,12 +55,6 @@ module _ (xs : List NetRecord) (old : List ℕ) where
   none_put = refl
 
   module _ (now : List ℕ) (k : ℕ) (e : now ≡ flat (take k xs) ++ drop (4 * k) old) where
-    -- the table keeps its length
-    pub put_long : k ≤ length xs → 4 * k ≤ length old → length now ≡ length old
-    put_long g h =
-        let l = flat_long xs k g in
-        ap length e ∙ simp (length-append, length-drop) (omega arith)
-
     -- the numbers of one record more
     pub one_put : (m : ℕ) (ys : List ℕ) (r : NetRecord) → m ≡ 4 → k < length xs → ys ≡ r.first ∷ r.last ∷ r.pins ∷ r.length ∷ [] → r ≡ get_or xs k zero_record
         → take (4 * k) now ++ (ys ++ drop m (drop (4 * k) now)) ≡ flat (take (k + 1) xs) ++ drop (4 * (k + 1)) old
