@@ -8,7 +8,7 @@ mod rows;
 
 ghost use Rattle.std.specs.Prelude.{◌≡◌, List, ◌≢◌, ℕ, ◌≤◌, length};
 ghost use Rattle.grid.specs.Refusals.{number_of};
-ghost use Rattle.stepwise.specs.Sweep.{state_of, Stands, started, Starts, Steps, PlacesLate, KeptIfRefused};
+ghost use Rattle.stepwise.specs.Sweep.{state_of, Stands, start_refused, started, Starts, Steps, PlacesLate, KeptIfRefused};
 ghost use Rattle.stepwise.specs.Working.{two_pin_facts};
 
 use grid::{Family, NetFacts, Refusal};
@@ -58,6 +58,7 @@ pub fn start(
     extended: &mut [u64; 8],
 ) -> Result<Started, Refusal>
     ensures answer { result ≡ started top.now bottom.now }
+    ensures number { number_of result ≡ start_refused top.now bottom.now }
     ensures state { Starts top.now bottom.now (state_of columns.new tracks.new drawn.new
         upper.new lower.new first.new last.new strands.new free.new low.new
         high.new many.new extended.new) }
