@@ -21,9 +21,9 @@ use Rattle.grid.proofs.Tables.{table-length, table_at}
 use Rattle.grid.proofs.Numbers.{number_refusal, refusal_number, number_nonzero, pick_within, first_within}
 use Rattle.grid.proofs.Answers.{first_here, rows_within, told_facts}
 use Rattle.checker.specs.Check.{Checked, number_of, place_of, fault_column, fault_row, checked_by, least, some, strange, mispinned, leaves_last, split, loose_net}
-use Rattle.checker.specs.Check.{pin_fault, first_mispinned, entries_refused, drawing_refused, refused, place, column, row, checked}
+use Rattle.checker.specs.Check.{fault_at, pin_fault, first_mispinned, entries_refused, drawing_refused, refused, place, column, row, checked}
 use Rattle.checker.specs.declared.ends.Loose.{Loose}
-use Rattle.checker.specs.Working.{fault_at, fault_of_end, refused_at, first_below, answer_with, entries_checked, drawing_checked, PinTable, Within, LowestEnd}
+use Rattle.checker.specs.Working.{fault_of_end, refused_at, first_below, answer_with, entries_checked, drawing_checked, PinTable, Within, LowestEnd}
 use Rattle.checker.proofs.Least.{of_none, first_is, first_no}
 use Rattle.checker.proofs.entries.Nets.{strange_not}
 use Rattle.checker.proofs.Terminals.{PinFault, is_14, is_19, is_20, pin_fault_by}

@@ -3,6 +3,7 @@
 -- entry p % (2t + 1) of it.
 use Rattle.std.specs.Prelude.{ℕ, zero, suc, ◌+◌, ◌*◌, ◌/◌, ◌%◌, Bool, true, false, not, ◌&&◌, ◌||◌, List, length, get_or, eqb, ltb, Result, Ok, Err}
 use Rattle.std.proofs.Common.{arith}
+use Rattle.grid.specs.declared.refusals.Refusal.{Refusal}
 use Rattle.grid.specs.Channel.{pick, pins, rows_refused}
 use Rattle.grid.specs.Refusals.{first_refusal, number, refusal}
 use Rattle.grid.specs.Grid.{vertical_of, horizontal_of, OnePiece, edges_at}
@@ -42,6 +43,10 @@ told f = record { number = number f.refusal; place = f.place; column = f.column;
 abbrev pub told_of : Checked → Told
 told_of (Ok p) = record { number = 0; place = 0; column = 0; row = 0 }
 told_of (Err f) = told f
+
+-- of a refusal that is no loose end, the fault at a place: "zeros for … every other figure but the place"
+abbrev pub fault_at : Refusal → (place : ℕ) → Fault
+fault_at r p = record { refusal = r; place = p; column = 0; row = 0 }
 
 -- the answer with a number, a place, a column and a row: "A refusal returns its number and zeros for … every other figure but the place."
 abbrev pub checked_by : (number place column row : ℕ) → Checked

@@ -3,12 +3,11 @@ use Rattle.std.specs.Prelude.{ℕ, suc, ◌+◌, ◌*◌, ◌-◌, ◌/◌, ◌�
 use Rattle.grid.specs.Channel.{pick, bit, pins}
 use Rattle.grid.specs.Working.{ByNet}
 use Rattle.pieces.specs.Labels.{net_of, sub, after_left, after_up, after_right, after_points, left_from, labelled, tally, roots, lost}
-use Rattle.grid.specs.declared.refusals.Refusal.{Refusal}
 use Rattle.grid.specs.declared.refusals.Refusal.TheVariants.{LooseEnd}
 use Rattle.grid.specs.Refusals.{refusal}
 use Rattle.checker.specs.declared.Fault.{Fault}
 use Rattle.checker.specs.declared.ends.Loose.{Loose}
-use Rattle.checker.specs.Check.{Checked, checked_by, entries_refused, drawing_refused, place, column, row}
+use Rattle.checker.specs.Check.{Checked, fault_at, checked_by, entries_refused, drawing_refused, place, column, row}
 use Rattle.checker.specs.Check.{least, some, loose_at, loose_net, loose_column, loose_track}
 use Rattle.checker.specs.Faults.{Before}
 
@@ -18,10 +17,6 @@ unfoldable pub first_below : (n : ℕ) → (ℕ → Bool) → Option ℕ
 first_below n P = pick (some n P) (Some (least n P)) None
 
 -- ANSWERS
--- a refusal and its place, no loose end
-abbrev pub fault_at : Refusal → (place : ℕ) → Fault
-fault_at r p = record { refusal = r; place = p; column = 0; row = 0 }
-
 -- the answer with a number and a place
 abbrev pub refused_at : (number place : ℕ) → Checked
 refused_at k p = Err (fault_at (refusal k) p)

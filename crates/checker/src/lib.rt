@@ -8,8 +8,8 @@ mod meeting;
 mod points;
 
 ghost use Rattle.std.specs.Prelude.{◌≡◌, ◌+◌, ◌*◌, ◌≤◌, length};
-ghost use Rattle.checker.specs.Check.{told_of, number_of, place_of, fault_column, fault_row, refused, place, column, row, checked};
-ghost use Rattle.checker.specs.Working.{fault_at, fault_of_end, entries_checked, drawing_checked, PinTable};
+ghost use Rattle.checker.specs.Check.{told_of, fault_at, number_of, place_of, fault_column, fault_row, refused, place, column, row, checked};
+ghost use Rattle.checker.specs.Working.{fault_of_end, entries_checked, drawing_checked, PinTable};
 
 use ends::Loose;
 use grid::Refusal;

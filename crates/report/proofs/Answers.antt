@@ -18,9 +18,8 @@ use Rattle.grid.proofs.Answers.{first_past, first_here, accepted_old, rows_withi
 use Rattle.grid.proofs.Tests.{Below, above, below_by, lt-ltb, le-ltb}
 use Rattle.checker.specs.declared.Fault.{Fault}
 use Rattle.checker.specs.declared.Told.{Told}
-use Rattle.checker.specs.Check.{told, checked_by, drawing_refused, place, column, row, checked}
+use Rattle.checker.specs.Check.{told, fault_at, checked_by, drawing_refused, place, column, row, checked}
 use Rattle.checker.specs.Check as checking
-use Rattle.checker.specs.Working.{fault_at}
 use Rattle.checker.proofs.Answers.{no_place_else, no_point_else, rows_low, drawing_within}
 use Rattle.report.specs.declared.NetRecord.{NetRecord}
 use Rattle.report.specs.declared.Drawing.{Drawing}

@@ -1,6 +1,6 @@
 -- `checker::check` meets its contract: the rows' refusal, or the answer on the drawing with the table of their pins.
 use Rattle.grid.proofs.Numbers.{passed_on}
-use Rattle.checker.specs.Working.{fault_at}
+use Rattle.checker.specs.Check.{fault_at}
 use Rattle.checker.proofs.Answers.{check_promise, refused-checked, known, accepted_checked}
 use Rattle.checker.proofs.check.Goals as goal
 

@@ -3,7 +3,7 @@ use mathlib.Core.Path.{sym, ap, ◌∙◌}
 use Rattle.std.specs.Prelude.{Err}
 use Rattle.grid.specs.declared.refusals.Refusal.{Refusal}
 use Rattle.grid.proofs.Numbers.{refusal_number}
-use Rattle.checker.specs.Working.{fault_at}
+use Rattle.checker.specs.Check.{fault_at}
 use Rattle.checker.proofs.Answers.{entry_at, within, pin_at_lem, last_at, pieces_at, ends_at, all_passed}
 use Rattle.checker.proofs.check_entries.Goals as goal
 

@@ -8,7 +8,7 @@ use lib.Seq.{length-take-le}
 use Rattle.std.specs.Prelude.{Err}
 use Rattle.grid.proofs.Numbers.{passed_on}
 use Rattle.grid.proofs.Answers.{told_facts}
-use Rattle.checker.specs.Working.{fault_at}
+use Rattle.checker.specs.Check.{fault_at}
 use Rattle.report.specs.declared.NetRecord.{NetRecord}
 use Rattle.report.specs.Report.{fault_of}
 use Rattle.report.proofs.Records.{gathered}
