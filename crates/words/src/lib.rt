@@ -1,7 +1,8 @@
-// What the test programs share that read cases as 16-bit words: room for the input and for its words, the words of some bytes, and the cases in some words.
+// What the test programs share that read cases as 16-bit words: room for the input and for its words, the words of some bytes, the number in two words, and the
+// cases in some words.
 #![tactic(auto)]
 
-ghost use Rattle.std.specs.Prelude.{◌≡◌, ◌^◌, ◌<◌, length};
+ghost use Rattle.std.specs.Prelude.{◌≡◌, ◌+◌, ◌*◌, ◌^◌, ◌<◌, ◌≤◌, length};
 ghost use Rattle.std.specs.Iterator.{at_most};
 ghost use Rattle.words.specs.Words.{Decoded};
 
@@ -29,6 +30,13 @@ pub fn decode(bytes: &[u8], words: &mut [u16]) -> usize
         words[k] = u16::from_le_bytes([bytes[2 * k], bytes[2 * k + 1]]);
     }
     n
+}
+
+// The number in two words.
+pub fn long(low: u16, high: u16) -> usize
+    ensures { (result ≡ low + 65536 * high) × (result ≤ 4294967295) }
+{
+    usize::from(low) + 65536 * usize::from(high)
 }
 
 // A case: the words of its head between the lengths of the rows and of the layout, its rows and its layout.
@@ -68,7 +76,7 @@ impl<'a, const N: usize> Iterator for Cases<'a, N> {
         let (&[low, high], rest) = rest.split_first_chunk::<2>()?;
         let (top, rest) = rest.split_at_checked(usize::from(top))?;
         let (bottom, rest) = rest.split_at_checked(usize::from(bottom))?;
-        let (layout, rest) = rest.split_at_checked(usize::from(low) + 65536 * usize::from(high))?;
+        let (layout, rest) = rest.split_at_checked(long(low, high))?;
         self.rest = rest;
         Some(Case {
             head,
