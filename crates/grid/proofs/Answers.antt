@@ -13,8 +13,8 @@ use Rattle.grid.specs.declared.refusals.Refusal.{Refusal}
 use Rattle.grid.specs.declared.Size.{Size}
 use Rattle.grid.specs.declared.NetFacts.{NetFacts}
 use Rattle.grid.specs.Channel.{pick, over, pins, family, density, rows_refused}
-use Rattle.grid.specs.Refusals.{first_refusal, if_accepted, number, number_of}
-use Rattle.grid.specs.Answers.{no_size, size_of, count_density, refused_within, accepted_size, accepted_facts, row_check, facts_check, density_count}
+use Rattle.grid.specs.Refusals.{first_refusal, if_accepted, number, number_of, answer_of}
+use Rattle.grid.specs.Answers.{no_size, size_of, rows_of, table_or, count_density, refused_within, accepted_size, accepted_facts, row_check, facts_check, density_count}
 use Rattle.grid.proofs.Numbers.{pick_within, number_answer, figures_answer, accepted_by, refused_by, refused_is, accepted_is}
 use Rattle.grid.specs.Working.{sizes_refused, Rows, Filled, some_to}
 use Rattle.grid.proofs.Tests.{eqb-true, ltb-false, not-false, eq-eqb, ne_eqb, lt-ltb, le-ltb, or_false, pick_past}
@@ -176,6 +176,44 @@ module _ (top bottom : List ℕ) where
       let b = g.lasts in
       let p = g.pinned in
       accepted_is (refused_within top bottom most) (accepted_facts top bottom) _ z (cc)
+
+-- WHAT THE CALL WITH THE FACTS PROMISES
+module _ (top bottom : List ℕ) (most : ℕ) where
+  -- the row check stands in its answer
+  pub rows_answer : rows_of (facts_check top bottom most) ≡ row_check top bottom most
+  unfolding facts_check row_check
+  rows_answer = go (refused_within top bottom most)
+    where
+      go : (k : ℕ) → rows_of (answer_of k (accepted_facts top bottom)) ≡ answer_of k (accepted_size top bottom)
+      go zero = refl
+      go (suc k) = refl
+
+  -- a caller's table holds the answer's figures on acceptance and the old contents on refusal
+  pub table_answer : (of : NetFacts → List ℕ) (old : List ℕ)
+      → table_or of old (facts_check top bottom most) ≡ if_accepted (refused_within top bottom most) (of (accepted_facts top bottom)) old
+  unfolding facts_check
+  table_answer of old = go (refused_within top bottom most)
+    where
+      go : (k : ℕ) → table_or of old (answer_of k (accepted_facts top bottom)) ≡ if_accepted k (of (accepted_facts top bottom)) old
+      go zero = refl
+      go (suc k) = refl
+
+  -- so of an answer that equals it
+  module _ (r : Result NetFacts Refusal) (e : r ≡ facts_check top bottom most) where
+    pub rows_promised : rows_of r ≡ row_check top bottom most
+    rows_promised = ap rows_of e ∙ rows_answer
+
+    pub number_promised : number_of r ≡ refused_within top bottom most
+    number_promised = ap number_of e ∙ facts-number top bottom most
+
+    pub table_promised : (of : NetFacts → List ℕ) (old : List ℕ) → table_or of old r ≡ if_accepted (number_of r) (of (accepted_facts top bottom)) old
+    table_promised of old =
+        ap (λ (z : Result NetFacts Refusal). table_or of old z) e ∙ table_answer of old
+        ∙ ap (λ (k : ℕ). if_accepted k (of (accepted_facts top bottom)) old) (sym number_promised)
+
+    pub figures_promised : size_of (rows_of r) ≡ if_accepted (number_of r) (accepted_size top bottom) no_size
+    figures_promised =
+        ap size_of rows_promised ∙ check_figures top bottom most ∙ ap (λ (k : ℕ). if_accepted k (accepted_size top bottom) no_size) (sym number_promised)
 
 -- FOR CALLERS OF THE ROW CHECK
 

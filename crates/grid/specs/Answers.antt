@@ -1,6 +1,6 @@
 -- Document 01, "Refused, by place": the answers of the calls on rows, and the document's number and figures for each of their cases. "The number on
 -- acceptance is 0"; a refusal gives "zeros for density … and every other figure".
-use Rattle.std.specs.Prelude.{ℕ, min, List, length, Result}
+use Rattle.std.specs.Prelude.{ℕ, min, List, length, Result, Ok, Err}
 use Rattle.grid.specs.declared.Size.{Size}
 use Rattle.grid.specs.declared.NetFacts.{NetFacts}
 use Rattle.grid.specs.declared.Family.TheVariants.{TwoPin}
@@ -19,6 +19,16 @@ size_of r = figures_or no_size r
 -- of the density call
 abbrev pub count_density : Result ℕ Refusal → ℕ
 count_density r = figures_or 0 r
+
+-- OF AN ANSWER WITH THE FACTS OF THE NETS: the row check in it
+abbrev pub rows_of : Result NetFacts Refusal → Result Size Refusal
+rows_of (Ok f) = Ok f.size
+rows_of (Err r) = Err r
+
+-- and what a table that held `old` holds once one of its tables is put there: "A refused call writes to no lent slice or table"
+abbrev pub table_or : (of : NetFacts → List ℕ) (old : List ℕ) → Result NetFacts Refusal → List ℕ
+table_or of old (Ok f) = of f
+table_or of old (Err r) = old
 
 -- WHAT THEY ANSWER
 module _ (top bottom : List ℕ) where

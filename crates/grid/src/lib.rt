@@ -7,12 +7,12 @@ mod refusals;
 mod scan;
 mod spans;
 
-ghost use Rattle.std.specs.Prelude.{◌≡◌, min};
-ghost use Rattle.grid.specs.Channel.{over, rows_refused, density as density_of};
-ghost use Rattle.grid.specs.Nets.{zero_table};
+ghost use Rattle.std.specs.Prelude.{ℕ, ◌≡◌, min, List};
+ghost use Rattle.grid.specs.Channel.{over, rows_refused, density as density_of, pins as pins_of};
+ghost use Rattle.grid.specs.Nets.{first_column, last_column, table, zero_table};
 ghost use Rattle.grid.specs.Places.{no_row};
 ghost use Rattle.grid.specs.Refusals.{if_accepted, number_of};
-ghost use Rattle.grid.specs.Answers.{size_of, no_size, count_density, refused_within, accepted_size, row_check, facts_check, density_count};
+ghost use Rattle.grid.specs.Answers.{size_of, no_size, rows_of, table_or, count_density, refused_within, accepted_size, row_check, facts_check, density_count};
 ghost use Rattle.grid.specs.Working.{Filled, sizes_refused};
 ghost use Rattle.grid.specs.View.{no_part, column_part, column_view};
 
@@ -159,7 +159,15 @@ pub fn rows_refusal(top: &[u16], bottom: &[u16], most: usize) -> Result<(), Refu
 // The row check, and the first column, last column and pin count of each net of accepted rows.
 pub fn net_facts(top: &[u16], bottom: &[u16], most: usize) -> Result<NetFacts, Refusal>
     ensures answer { result ≡ facts_check top.now bottom.now most }
+    ensures rows { rows_of result ≡ row_check top.now bottom.now most }
+    ensures first { (old : List ℕ) → table_or (λ f. f.first) old result
+        ≡ if_accepted (number_of result) (table (first_column top.now bottom.now)) old }
+    ensures last { (old : List ℕ) → table_or (λ f. f.last) old result
+        ≡ if_accepted (number_of result) (table (last_column top.now bottom.now)) old }
+    ensures pins { (old : List ℕ) → table_or (λ f. f.pins) old result
+        ≡ if_accepted (number_of result) (table (pins_of top.now bottom.now)) old }
     ensures number { number_of result ≡ refused_within top.now bottom.now most }
+    ensures figures { size_of (rows_of result) ≡ if_accepted (number_of result) (accepted_size top.now bottom.now) no_size }
 {
     let mut first = zeros();
     let mut last = zeros();
