@@ -90,7 +90,9 @@ fn copy_tracks(part: &mut [u16], tracks: &Tracks, t: usize)
         → part.new ≡ take (t + 1) part.old ++ tracks_in t tracks.now.nets.now }
 {
     let nets = &*tracks.nets;
-    part[t + 1..].copy_from_slice(&nets[1..t + 1]);
+    for i in 0..t {
+        part[t + 1 + i] = nets[1 + i];
+    }
 }
 
 // Writes a column: its vertical edges, and the tracks that leave it.

@@ -13,8 +13,8 @@ use Rattle.sweep.proofs.Columns.Entries.{get_or-listed, length-listed, verticals
 use native.Mathlib.Nat.{zero-add}
 use native.Mathlib.Numerals.{add-one}
 use native.Mathlib.Omega.{arith}
-use lib.ListN.{length, take, drop, get_or, set}
-use lib.Seq.{paste, paste-zero, paste-suc, take_all, take_at}
+use lib.ListN.{length, take, drop, get_or, set, length-drop}
+use lib.Seq.{paste, paste-zero, paste-suc, get_or-drop, take_all, take_at}
 use Rattle.grid.specs.declared.Segments.{Segments}
 use Rattle.grid.specs.Segments.{segment}
 use Rattle.sweep.specs.declared.Action.{Action}
@@ -94,3 +94,8 @@ verticals_by f d s t x h e =
 -- the verticals and the tracks are the column
 pub column_whole : (d e f tr : List ℕ) (t : ℕ) (x : Action) → e ≡ verticals t x ++ drop (t + 1) d → f ≡ take (t + 1) e ++ take t (drop 1 tr) → f ≡ verticals t x ++ take t (drop 1 tr)
 column_whole d e f tr t x p q = cc (take_at (verticals t x) (drop (t + 1) d) (t + 1) (verticals-length t x))
+
+-- one track more
+pub copied : (d tr s : List ℕ) (t i : ℕ) → s ≡ paste d (t + 1) (drop 1 tr) i → t + 1 + i < length d → 1 + i < length tr
+    → set s (t + 1 + i) (get_or tr (1 + i) 0) ≡ paste d (t + 1) (drop 1 tr) (i + 1)
+copied d tr s t i e h l = cc (paste-suc d (t + 1) (drop 1 tr) i 0 h (omega (arith, length-drop 1 tr)), get_or-drop 1 tr i 0, add-one i)
