@@ -1,2 +1,3 @@
 -- The laws of the calls for other languages.
 pub mod Figures
+pub mod Driven

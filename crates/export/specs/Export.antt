@@ -3,7 +3,7 @@
 -- for its cases.
 use Rattle.std.specs.Prelude.{ℕ, ◌/◌, List, [], ◌∷◌, ◌++◌, length as size, drop, Result}
 use Rattle.grid.specs.declared.refusals.Refusal.{Refusal}
-use Rattle.grid.specs.Refusals.{if_accepted, number_of}
+use Rattle.grid.specs.Refusals.{if_accepted, number_of, answer_of}
 use Rattle.grid.specs.Answers.{count_density}
 use Rattle.router.specs.declared.Figures.{Figures}
 use Rattle.router.specs.Answers.{figures_of, entries_of}
@@ -72,6 +72,10 @@ start_of a = record { number = number_of a; tracks = (start_figures a).tracks; l
 -- and a step: its number, the columns drawn and whether all are
 abbrev pub step_of : Result Stepped Refusal → StepResult
 step_of a = record { number = number_of a; drawn = (step_figures a).drawn; finished = (step_figures a).finished }
+
+-- the sweep's own answer that a step's number and figures tell
+abbrev pub stepped_by : StepResult → Result Stepped Refusal
+stepped_by r = answer_of r.number (record { drawn = r.drawn; finished = r.finished })
 
 -- "one per number 1 to 256: first column, last column, pin count", and the length: a table of net records as numbers, four for each record
 unfoldable pub flat : List NetRecord → List ℕ

@@ -1,7 +1,7 @@
 // The calls of a sweep that its caller drives.
 ghost use Rattle.std.specs.Prelude.{◌≡◌, ◌≢◌, List, ℕ, length};
-ghost use Rattle.stepwise.specs.Sweep.{state_of, Stands, started, stepped, Starts, Steps, PlacesLate, KeptIfRefused};
-ghost use Rattle.export.specs.Export.{start_of, step_of};
+ghost use Rattle.stepwise.specs.Sweep.{state_of, Stands, start_refused, started, stepped, Starts, Steps, PlacesLate, KeptIfRefused};
+ghost use Rattle.export.specs.Export.{start_of, step_of, stepped_by};
 
 use stepwise::{Started, Stepped};
 
@@ -53,6 +53,7 @@ pub extern "C" fn gaxwethi_sweep_start(
     extended: &mut [u64; 8],
 ) -> StartResult
     ensures answer { result ≡ start_of (started top.now bottom.now) }
+    ensures number { result.number ≡ start_refused top.now bottom.now }
     ensures state { Starts top.now bottom.now (state_of columns.new tracks.new drawn.new
         upper.new lower.new first.new last.new strands.new free.new low.new
         high.new many.new extended.new) }
@@ -92,7 +93,7 @@ pub extern "C" fn gaxwethi_sweep_step(
         lower.now first.now last.now strands.old free.old low.old high.old
         many.old extended.old)
         → (result ≡ step_of (stepped top bottom t c k (length layout.old)))
-        × Steps top bottom t c k layout.old layout.new (stepped top bottom t c k (length layout.old)) (state_of columns tracks drawn.new upper.now
+        × Steps top bottom t c k layout.old layout.new (stepped_by result) (state_of columns tracks drawn.new upper.now
         lower.now first.now last.now strands.new free.new low.new high.new
         many.new extended.new) }
     ensures refused { KeptIfRefused result.number (state_of columns tracks drawn.old upper.now
