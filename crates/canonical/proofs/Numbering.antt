@@ -9,7 +9,7 @@ use native.Mathlib.Numerals.{add-one}
 use native.Mathlib.Decide.{ℕ_discrete}
 use lib.Dec.{eqb}
 use lib.ListN.{length, get_or, set, length-set, length-append}
-use lib.Seq.{get_or-set_same, get_or-set_other}
+use lib.Seq.{get_or-set_same, get_or-set_other, set-get_or}
 use Rattle.grid.specs.Channel.{pick}
 use Rattle.grid.specs.Nets.{table, zero_table}
 use Rattle.grid.specs.Working.{Rows}
@@ -60,6 +60,10 @@ module _ (l : List ℕ) (given : ℕ) (numbers : List ℕ) (h : Ranked l given n
       go m (empty e) = h
       go m (known d b) = h
       go m (new d b) = absurd (a (old d ∙ b))
+
+  -- its number stored once more
+  pub pin_kept : get_or numbers net 0 ≢ 0 → Ranked (with_net l net) given (set numbers net (get_or numbers net 0))
+  pin_kept a = subst (λ t. Ranked (with_net l net) given t) (sym (set-get_or numbers net 0)) (pin_known a)
 
   -- a pin whose net has none
   pub pin_new : get_or numbers net 0 ≡ 0 → Ranked (with_net l net) (given + 1) (set numbers net (given + 1))

@@ -21,11 +21,10 @@ fn number_pin(net: u16, given: u16, numbers: &mut [u16]) -> u16
     ensures { (l : List ℕ) → Ranked l given numbers.old → Ranked (with_net l net) result numbers.new }
 {
     let net = usize::from(net);
-    if numbers[net] != 0 {
-        return given;
-    }
-    numbers[net] = given + 1;
-    given + 1
+    let old = numbers[net];
+    let last = if old == 0 { given + 1 } else { given };
+    numbers[net] = if old == 0 { last } else { old };
+    last
 }
 
 // Numbers the nets in the order of their first pin: column by column, top before bottom. Meanwhile 0 has a number, so that it is given none; at last it has
