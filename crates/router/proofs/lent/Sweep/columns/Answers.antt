@@ -53,7 +53,7 @@ draw_column-requires c =
     let l = c.loop-i in
     let t = c.args.self.now.plan.t in (
       c.requires.2,
-      λ d. omega (arith, Steps.fits_next c.args.to l.i (2 * t + 1) c.loop-i-test.true, c.requires.3 d, l.invariant.0),
+      λ d. omega (arith, Steps.fits_next c.args.to l.i (2 * t + 1) (omega arith), c.requires.3 d, l.invariant.0),
     )
 
 pub loop-i-preserved : goal.loop-i-preserved
@@ -71,7 +71,7 @@ loop-i-preserved c =
           → (k.result ≡ (move_at p.t tp bt l.i).action) × At tp bt p (l.i + 1) k.new.self) l.invariant.1.plan
           (k.ensures.advanced tp bt (pin_is c.args.top.now tp l.i _ et r.tops c.net_at-p.ensures.pin)
           (pin_is c.args.bottom.now bt l.i _ eb r.bottoms c.net_at-q.ensures.pin)) in
-          let m = advanced r (f l.i (omega arith) c.loop-i-test.true) s.0 in (
+          let m = advanced r (f l.i (omega arith) (omega arith)) s.0 in (
             m.1,
             λ q d.
                 Steps.drawn_next c.args.drawing tp bt q l.layout _ l.i (l.i * (2 * t + 1)) k.result refl (s.1 q d) m.0 m.1.keeps.holds
@@ -86,7 +86,7 @@ pub returns : goal.returns
 returns c =
     let l = c.loop-i in
     let p = c.args.self.now.plan in
-    let e : l.i ≡ c.args.to = omega (arith, c.loop-i.auto.i-end c.requires.0) in
+    let e : l.i ≡ c.args.to = omega (arith, c.loop-i.auto.i-end (omega arith)) in
     record {
       swept = λ tp bt et eb r f g.
           let s = l.invariant.2 tp bt et eb r f g in (
