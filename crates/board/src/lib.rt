@@ -83,10 +83,10 @@ pub fn drop(
         return Err(Refusal::NetNumber);
     }
     let n = grid::columns_held(columns);
-    let (Some(first), Some(last)) = (
-        rows::first_column(&top[..n], &bottom[..n], net),
-        rows::last_column(&top[..n], &bottom[..n], net),
-    ) else {
+    let Some(last) = rows::last_column(&top[..n], &bottom[..n], net) else {
+        return Err(Refusal::AbsentNet);
+    };
+    let Some(first) = rows::first_column(&top[..n], &bottom[..n], net) else {
         return Err(Refusal::AbsentNet);
     };
     counts::mend(counts, first, last, |count| count.saturating_sub(1));

@@ -26,22 +26,22 @@ returns-then-net-eq0 c = drop_wrong c.args.columns c.args.net _ _ _ c.then-net-e
 -- it has no last column
 pub returns-in_default : goal.returns-in_default
 returns-in_default c =
-    drop_none (facts (goal.at.returns-in_default c).After-last_column _ refl) (no_column _ (sym c.in_default.is-1 ∙ c.last_column.ensures)) _
+    drop_none (facts (goal.at.returns-in_default c).After-last_column _ refl) (no_column _ (sym c.in_default.is ∙ c.last_column.ensures)) _
 
 -- nor has it where it has no first
-pub returns-in_default-2 : goal.returns-in_default-2
-returns-in_default-2 c =
-    drop_none (facts (goal.at.returns-in_default-2 c).After-last_column _ refl)
-    (none_last _ _ c.args.net c.if-net-eq0.false (no_column _ (sym c.in_default.is-0 ∙ c.first_column.ensures))) _
+pub returns-in_default-first_column : goal.returns-in_default-first_column
+returns-in_default-first_column c =
+    drop_none (facts (goal.at.returns-in_default-first_column c).After-last_column _ refl)
+    (none_last _ _ c.args.net c.if-net-eq0.false (no_column _ (sym c.in_default-first_column.is ∙ c.first_column.ensures))) _
 
 pub mend-requires-clause-last : goal.mend-requires-clause-last
 mend-requires-clause-last c =
-    drop_room (facts (goal.at.mend-requires-clause-last c).After-last_column _ (column_is _ _ (sym c.in-Some-Some.is-1 ∙ c.last_column.ensures)).0)
+    drop_room (facts (goal.at.mend-requires-clause-last c).After-last_column _ (column_is _ _ (sym c.in-Some.is ∙ c.last_column.ensures)).0)
 
 pub returns : goal.returns
 returns c =
-    let first = column_is _ _ (sym c.in-Some-Some.is-0 ∙ c.first_column.ensures) in
-    let last = column_is _ _ (sym c.in-Some-Some.is-1 ∙ c.last_column.ensures) in
-    drop_made (facts (goal.at.returns c).After-last_column _ last.0) (λ z. last.1 (sym last.0 ∙ z)) c.in-Some-Some.first first.0
+    let first = column_is _ _ (sym c.in-Some-first_column.is ∙ c.first_column.ensures) in
+    let last = column_is _ _ (sym c.in-Some.is ∙ c.last_column.ensures) in
+    drop_made (facts (goal.at.returns c).After-last_column _ last.0) (λ z. last.1 (sym last.0 ∙ z)) c.in-Some-first_column.first first.0
     _ (λ x y b r. search rules) _ c.mend.new.counts c.mend.ensures
     c.clear.new.row c.clear-2.new.row c.clear.ensures c.clear-2.ensures
