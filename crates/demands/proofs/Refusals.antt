@@ -9,7 +9,7 @@ use lib.ListN.{length}
 use Rattle.grid.specs.Channel.{pick, rows_refused}
 use Rattle.grid.specs.Refusals.{first_refusal, number_of}
 use Rattle.grid.specs.Answers as counting
-use Rattle.grid.proofs.Answers.{check_number, check_figures, density-number, density_figure, accepted_old, no_later}
+use Rattle.grid.proofs.Answers.{check_number, check_figures, facts-number, density-number, density_figure, rows_answer, accepted_old, no_later}
 use Rattle.router.specs.Answers as routing
 use Rattle.router.proofs.Answered.{need_number, need_entries, answer-number, answer_figures}
 use Rattle.checker.specs.declared.Told.{Told}
@@ -78,6 +78,9 @@ module _ (top bottom : List ℕ) where
         rows = λ most.
             subst (λ (k : ℕ). First (of_rows top bottom (min most 256) end) k) (sym (check_number top bottom most))
             (rows_first top bottom (min most 256) (within most));
+        facts = λ most.
+            subst (λ (k : ℕ). First (of_rows top bottom (min most 256) end) k) (sym (facts-number top bottom most))
+            (rows_first top bottom (min most 256) (within most));
         density = subst (λ (k : ℕ). First (of_rows top bottom 256 end) k) (sym (density-number top bottom)) (rows_first top bottom 256 (omega arith));
         need = subst (λ (k : ℕ). First (of_rows top bottom 256 end) k) (sym (need_number top bottom)) (rows_first top bottom 256 (omega arith));
         route = route_first;
@@ -95,6 +98,9 @@ module _ (top bottom : List ℕ) where
   zeros =
       record {
         rows = λ most n. check_figures top bottom most ∙ accepted_old _ _ counting.no_size (λ z. n (check_number top bottom most ∙ z));
+        facts = λ most n.
+            ap counting.size_of (rows_answer top bottom most) ∙ check_figures top bottom most
+            ∙ accepted_old _ _ counting.no_size (λ z. n (facts-number top bottom most ∙ z));
         density = λ n. density_figure top bottom ∙ accepted_old _ _ 0 (λ z. n (density-number top bottom ∙ z));
         need = λ n. need_entries top bottom ∙ accepted_old _ _ 0 (λ z. n (need_number top bottom ∙ z));
         route = λ most lent n. answer_figures top bottom most lent ∙ accepted_old _ _ routing.no_figures (λ z. n (answer-number top bottom most lent ∙ z));

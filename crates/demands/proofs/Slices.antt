@@ -7,14 +7,15 @@ use native.Mathlib.Omega.{arith}
 use native.Mathlib.Decide.{dec_lt, ℕ_discrete}
 use lib.ListN.{length, drop, length-drop}
 use lib.Seq.{length-take-le}
-use Rattle.grid.specs.Refusals.{number_of}
+use Rattle.grid.specs.Refusals.{if_accepted, number_of}
+use Rattle.grid.specs.declared.NetFacts.{NetFacts}
 use Rattle.grid.specs.declared.Part.{Part}
 use Rattle.grid.specs.Grid.{column_of}
 use Rattle.grid.specs.View.{column_part, column_view, part_of, no_part}
 use Rattle.grid.specs.Channel.{pins}
 use Rattle.grid.specs.Nets.{first_column, last_column, table}
 use Rattle.grid.specs.Answers as counting
-use Rattle.grid.proofs.Answers.{accepted_new, accepted_old}
+use Rattle.grid.proofs.Answers.{check_number, rows_answer, table_answer, accepted_new, accepted_old}
 use Rattle.grid.proofs.Rows.{rows_fit}
 use Rattle.grid.proofs.Views.{part_end, too_wide, too_tall, wrong_size_lem, no_column, past_last, found}
 use Rattle.router.proofs.Answered.{answer-number, written_refused, written_drawn}
@@ -43,6 +44,13 @@ record_written top bottom old e =
     let (r, h) = spell.none_refused top bottom (length old) (sym (spell.answer-number top bottom (length old)) ∙ e) in
     spell.bytes_new top bottom old r h ∙ ap (λ (k : ℕ). spelling.canonical top bottom ++ drop k old) (spell.canonical-length top bottom (rows_fit top bottom r).same)
 
+-- what one table of the answer with the net facts leaves
+told_after : (top bottom : List ℕ) (most : ℕ) (of : NetFacts → List ℕ) (old : List ℕ)
+    → counting.table_or of old (counting.facts_check top bottom most)
+    ≡ if_accepted (number_of (counting.row_check top bottom most)) (of (counting.accepted_facts top bottom)) old
+told_after top bottom most of old =
+    table_answer top bottom most of old ∙ ap (λ (k : ℕ). if_accepted k (of (counting.accepted_facts top bottom)) old) (sym (check_number top bottom most))
+
 -- for all rows
 pub leaves : (top bottom : List ℕ) → LeavesSlices top bottom
 leaves top bottom =
@@ -58,6 +66,9 @@ leaves top bottom =
       facts_filled = λ most old e.
           let k = number_of (counting.row_check top bottom most) in
           (accepted_new k (table (first_column top bottom)) old e, accepted_new k (table (last_column top bottom)) old e, accepted_new k (table (pins top bottom)) old e);
+      facts_told = λ most old.
+          (told_after top bottom most (λ f. f.first) old, told_after top bottom most (λ f. f.last) old, told_after top bottom most (λ f. f.pins) old);
+      facts_rows = rows_answer top bottom;
       written = record_written top bottom;
     }
 

@@ -19,8 +19,8 @@ use Rattle.placing.specs.Placing.{placed_top, placed_bottom}
 use Rattle.stepwise.specs.Sweep.{State, Starts, start_refused, late_refused}
 use Rattle.stepwise.specs.declared.Started.{Started}
 use Rattle.stepwise.specs.declared.Stepped.{Stepped}
-use Rattle.stepwise.proofs.Begin.{started_zeros}
-use Rattle.stepwise.proofs.Onwards.{stepped_zeros}
+use Rattle.stepwise.proofs.Begin.{started_number, started_zeros}
+use Rattle.stepwise.proofs.Onwards.{stepped_number, stepped_zeros}
 use Rattle.stepwise.specs.Calls.{Call, Position, Leads}
 use Rattle.stepwise.proofs.Positions.{Going, GoesOn, within_two, going_start, steps_add, step_past, place-refused, first-columns, columns_stay}
 use Rattle.stepwise.proofs.Positions.{goes_all, after-append, InHand, hand_start, hand_after}
@@ -78,6 +78,8 @@ module _ (top bottom : List ℕ) where
   refuses = record {
     start = start_first top bottom;
     step = λ t c lent. slice_first 8 (formula_length (length top) t) lent;
+    start_answers = started_number top bottom;
+    step_answers = stepped_number top bottom;
     place = λ p. late_first top bottom (rows_fit top bottom ((rows_accepted top bottom).1 p.accepted)).same;
   }
 

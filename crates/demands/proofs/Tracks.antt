@@ -11,7 +11,7 @@ use Rattle.grid.specs.Channel.{tracks, rows_refused}
 use Rattle.grid.specs.Grid.{Wiring}
 use Rattle.grid.specs.Answers as counting
 use Rattle.grid.proofs.Rows.{RowsFit, rows_fit, rows_more, two_density, three_density, many-density}
-use Rattle.grid.proofs.Answers.{check_number, check_figures, density_figure, accepted_new, first_past}
+use Rattle.grid.proofs.Answers.{check_number, check_figures, facts-number, density_figure, rows_answer, accepted_new, first_past}
 use Rattle.grid.proofs.Drawings.Bound.{density_le}
 use Rattle.router.specs.declared.Figures.{Figures}
 use Rattle.router.specs.Answers as routing
@@ -53,6 +53,10 @@ module _ (top bottom : List ℕ) (ok : rows_refused top bottom 256 ≡ 0) where
         added_more = λ k. added-many top bottom fit (family_of top bottom fit ManyPin k);
         rows_density = λ most e.
             ap (λ s. s.density) (check_figures top bottom most ∙ accepted_new (counting.refused_within top bottom most) _ counting.no_size (sym (check_number top bottom most) ∙ e));
+        facts_density = λ most e.
+            ap (λ s. s.density)
+            (ap counting.size_of (rows_answer top bottom most) ∙ check_figures top bottom most
+            ∙ accepted_new (counting.refused_within top bottom most) _ counting.no_size (sym (facts-number top bottom most) ∙ e));
         counted_density = density_figure top bottom ∙ accepted_new (rows_refused top bottom 256) _ 0 ok;
       }
 

@@ -19,6 +19,7 @@ use Rattle.demands.specs.Table.{First, end, of_record, of_rows, of_layout, of_ne
 pub record Refuses (top bottom : List ℕ) : Type 0 where
   -- the row check, and the net facts, which answer alike
   pub rows : (most : ℕ) → First (of_rows top bottom (min most 256) end) (number_of (counting.row_check top bottom most))
+  pub facts : (most : ℕ) → First (of_rows top bottom (min most 256) end) (number_of (counting.facts_check top bottom most))
   pub density : First (of_rows top bottom 256 end) (number_of (counting.density_count top bottom))
   pub need : First (of_rows top bottom 256 end) (number_of (routing.need top bottom))
   pub route : (most lent : ℕ) → First (of_rows top bottom (min most 256) (of_layout top bottom lent)) (number_of (routing.answer top bottom most lent))
@@ -39,6 +40,9 @@ pub record RefusesRecord (s : List ℕ) : Type 0 where
 -- "A refusal returns its number and zeros for density, tracks, width, slice length and every other figure but the place."
 pub record Zeros (top bottom : List ℕ) : Type 0 where
   pub rows : (most : ℕ) → number_of (counting.row_check top bottom most) ≢ 0 → counting.size_of (counting.row_check top bottom most) ≡ counting.no_size
+  pub facts :
+      (most : ℕ) → number_of (counting.facts_check top bottom most) ≢ 0
+      → counting.size_of (counting.rows_of (counting.facts_check top bottom most)) ≡ counting.no_size
   pub density : number_of (counting.density_count top bottom) ≢ 0 → counting.count_density (counting.density_count top bottom) ≡ 0
   pub need : number_of (routing.need top bottom) ≢ 0 → routing.entries_of (routing.need top bottom) ≡ 0
   pub route :

@@ -44,6 +44,13 @@ pub record LeavesSlices (top bottom : List ℕ) : Type 0 where
       → (fact_after top bottom (first_column top bottom) most old ≡ table (first_column top bottom))
       × (fact_after top bottom (last_column top bottom) most old ≡ table (last_column top bottom))
       × (fact_after top bottom (pins top bottom) most old ≡ table (pins top bottom))
+  -- the call with the net facts gives its tables in its answer, and none where it refuses: so these are what a table that held `old` holds once one is put there
+  pub facts_told : (most : ℕ) (old : List ℕ)
+      → (counting.table_or (λ f. f.first) old (counting.facts_check top bottom most) ≡ fact_after top bottom (first_column top bottom) most old)
+      × (counting.table_or (λ f. f.last) old (counting.facts_check top bottom most) ≡ fact_after top bottom (last_column top bottom) most old)
+      × (counting.table_or (λ f. f.pins) old (counting.facts_check top bottom most) ≡ fact_after top bottom (pins top bottom) most old)
+  -- and the row check stands in that answer
+  pub facts_rows : (most : ℕ) → counting.rows_of (counting.facts_check top bottom most) ≡ counting.row_check top bottom most
   -- document 02, Job 6: "Bytes behind the record keep their contents"
   pub written : (old : List ℕ) → number_of (spelling.answer top bottom (length old)) ≡ 0
       → spelling.bytes_after top bottom old ≡ spelling.canonical top bottom ++ drop (6 + 4 * length top) old

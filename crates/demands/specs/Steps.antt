@@ -1,6 +1,7 @@
 -- Document 02, Job 10, "Column by column, with late nets": the numbers of the calls, and what any list of calls leads to.
 use Rattle.std.specs.Prelude.{ℕ, ◌+◌, ◌*◌, ◌≤◌, ◌≡◌, ◌≢◌, false, List, ◌++◌, length, drop}
 use Rattle.grid.specs.Channel.{density, tracks}
+use Rattle.grid.specs.Refusals.{number_of}
 use Rattle.sweep.specs.Drawing.{drawn}
 use Rattle.router.specs.Answers.{width, layout, formula_length, written}
 use Rattle.stepwise.specs.Sweep.{State, start_refused, started, start_figures, Starts, Stands, step_refused, stepped, step_figures, late_refused}
@@ -12,6 +13,9 @@ use Rattle.demands.specs.Beginnings.{TwoPinChannel, first_columns}
 pub record DrivenRefuses (top bottom : List ℕ) : Type 0 where
   pub start : First (of_pair_rows top bottom end) (start_refused top bottom)
   pub step : (t c lent : ℕ) → First (of_step (length top) t lent) (step_refused top bottom t c lent)
+  -- these are the numbers of their answers
+  pub start_answers : number_of (started top bottom) ≡ start_refused top bottom
+  pub step_answers : (t c k lent : ℕ) → number_of (stepped top bottom t c k lent) ≡ step_refused top bottom t c lent
   pub place : TwoPinChannel top bottom → (t c net column1 side1 column2 side2 : ℕ)
       → First (of_late_net top bottom t c net column1 side1 column2 side2) (late_refused top bottom t c net column1 side1 column2 side2)
 

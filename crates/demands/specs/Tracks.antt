@@ -53,8 +53,10 @@ pub record ChannelDrawn (top bottom : List ℕ) : Type 0 where
   pub added_threes : ThreesAtMost top bottom → width top bottom ≤ length top + 3 * density top bottom / 2 / 2
   -- with the others: "at most d - 1"
   pub added_more : Others top bottom → width top bottom ≤ length top + (density top bottom - 1)
-  -- the densities reported are the d of the definition: the row check's and the density call's
+  -- the densities reported are the d of the definition: the row check's, alone and with the net facts, and the density call's
   pub rows_density : (most : ℕ) → number_of (counting.row_check top bottom most) ≡ 0 → (counting.size_of (counting.row_check top bottom most)).density ≡ density top bottom
+  pub facts_density : (most : ℕ) → number_of (counting.facts_check top bottom most) ≡ 0
+      → (counting.size_of (counting.rows_of (counting.facts_check top bottom most))).density ≡ density top bottom
   pub counted_density : counting.count_density (counting.density_count top bottom) ≡ density top bottom
 
 -- ROUTING, with a limit of columns `most` (256; 64 in `knee`; one over 256 stands for 256) and a slice that held `old`: it draws exactly when the table lets the call through
