@@ -1,6 +1,6 @@
 -- The calls of a driven sweep for other languages, as the sweep's own. Assumes nothing.
 use Prim.Native.Nat.{ℕ}
-use mathlib.Core.Path.{◌≡◌, refl, sym}
+use mathlib.Core.Path.{◌≡◌, refl, sym, ap, subst, ◌∙◌}
 use mathlib.Core.List.{List, ◌∷◌}
 use lib.ListN.{length}
 use Rattle.std.specs.Prelude.{Result, Ok, Err}
@@ -17,6 +17,15 @@ use Rattle.export.specs.Export.{step_of, stepped_by}
 pub stepped_back : (a : Result Stepped Refusal) → stepped_by (step_of a) ≡ a
 stepped_back (Ok x) = refl
 stepped_back (Err e) = sym (refused_is (number e) _ e refl)
+
+-- a call that tells the sweep's own answer a keeps its promise
+pub step_told : {top bottom : List ℕ} {t c k : ℕ} {l l' : List ℕ} {x : State} (a : Result Stepped Refusal) (r : StepResult) → r ≡ step_of a
+    → Steps top bottom t c k l l' a x
+    → (r ≡ step_of (stepped top bottom t c k (length l))) × Steps top bottom t c k l l' (stepped_by r) x
+step_told {top} {bottom} {t} {c} {k} {l} {l'} {x} a r told step = (
+  told ∙ ap step_of step.answer,
+  subst (λ (b : Result Stepped Refusal). Steps top bottom t c k l l' b x) (sym (ap stepped_by told ∙ stepped_back a)) step,
+)
 
 -- SO THE CALL IS A STEP OF A LIST OF CALLS: r is its answer, and it keeps its promise for each channel that the state before stands for
 pub step_leads : (x x' y : State) (l l' m : List ℕ) (k : ℕ) (r : StepResult) (calls : List Call)
