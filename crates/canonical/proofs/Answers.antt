@@ -19,7 +19,7 @@ use Rattle.grid.proofs.Scanning.{none_over}
 use Rattle.grid.proofs.Numbers.{pick_within, first_within, number_nonzero, number_answer, figures_answer, refused_is}
 use Rattle.grid.proofs.Answers.{first_past, first_here, rows_within, rows_left, after_sizes, accepted_old}
 use Rattle.record.specs.Record.{laid, words, record_of}
-use Rattle.record.specs.Working.{Room, Puts}
+use Rattle.record.specs.Writing.{Room, Puts}
 use Rattle.record.specs.declared.writing.Writer.{Writer}
 use Rattle.canonical.specs.Working.{head, by_table}
 use Rattle.record.proofs.Words.{words_append, record_length}

@@ -7,7 +7,7 @@ use mathlib.Core.List.{List, [], ◌∷◌, ◌++◌, map, map-append}
 use lib.ListN.{length, get_or, take, length-map}
 use lib.Seq.{length-take-le, take-suc, take_all}
 use Rattle.record.specs.Record.{two_bytes, words}
-use Rattle.record.specs.Working.{Room, Puts}
+use Rattle.record.specs.Writing.{Room, Puts}
 use Rattle.record.specs.declared.writing.Writer.{Writer}
 use Rattle.record.proofs.Words.{words-length, words_append}
 use Rattle.record.proofs.Put.{put_then, put_as}

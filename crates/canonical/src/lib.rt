@@ -7,7 +7,7 @@ ghost use Rattle.grid.specs.Nets.{table, zero_table};
 ghost use Rattle.grid.specs.Refusals.{if_accepted, number_of};
 ghost use Rattle.grid.specs.Working.{Rows};
 ghost use Rattle.record.specs.Record.{two_bytes, words};
-ghost use Rattle.record.specs.Working.{Room, Puts};
+ghost use Rattle.record.specs.Writing.{Room, Puts};
 ghost use Rattle.canonical.specs.Renaming.{with_net, new_number};
 ghost use Rattle.canonical.specs.Canonical.{length_of, canonical, record_size, refused, answer, bytes_after};
 ghost use Rattle.canonical.specs.Working.{Ranked, head, by_table};

@@ -7,7 +7,7 @@ use mathlib.Core.Path.{◌≡◌, ap, ap₂, sym, subst, ◌∙◌}
 use mathlib.Core.List.{List, [], ◌∷◌, ◌++◌}
 use lib.ListN.{get_or, take, drop, length-append}
 use Rattle.record.specs.declared.writing.Writer.{Writer}
-use Rattle.record.specs.Working.{Room, Puts}
+use Rattle.record.specs.Writing.{Room, Puts}
 use Rattle.record.proofs.Put.{put_then, put_as, step_room}
 use Rattle.listing.specs.Digits.{decimal}
 use Rattle.listing.specs.Text.{cells, line_at, lines}

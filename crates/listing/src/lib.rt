@@ -9,7 +9,7 @@ ghost use Rattle.record.specs.Counts.{Counts};
 ghost use Rattle.listing.specs.Digits.{decimal};
 ghost use Rattle.listing.specs.Text.{cells, column_at, line_at, lines, header, drawing_text, refusal};
 ghost use Rattle.listing.specs.Listing.{length_of, channel_text, refused, text_of, listed, output};
-ghost use Rattle.record.specs.Working.{Room, Puts};
+ghost use Rattle.record.specs.Writing.{Room, Puts};
 ghost use Rattle.listing.specs.Working.{Lists};
 
 use grid::Refusal;

@@ -13,7 +13,7 @@ use borrow.Author.Tests.{ltb-true, ltb-false}
 use Rattle.record.specs.Record.{laid}
 use Rattle.record.specs.Counts.{Counts}
 use Rattle.record.specs.declared.writing.Writer.{Writer}
-use Rattle.record.specs.Working.{Room, overwritten, Puts}
+use Rattle.record.specs.Writing.{Room, overwritten, Puts}
 
 -- nothing put over others
 over_none : (old : List ℕ) (at : ℕ) → overwritten old at [] ≡ old

@@ -1,6 +1,6 @@
 // Bytes put one after another into a lent slice.
 ghost use Rattle.std.specs.Prelude.{◌≡◌, [], ◌∷◌};
-ghost use Rattle.record.specs.Working.{Room, Puts};
+ghost use Rattle.record.specs.Writing.{Room, Puts};
 
 // A lent slice, and how many bytes are written at its front.
 #[derive(Drop)]

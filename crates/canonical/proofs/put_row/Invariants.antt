@@ -1,6 +1,6 @@
 use lib.ListN.{take}
 use Rattle.record.specs.Record.{words}
-use Rattle.record.specs.Working.{Puts}
+use Rattle.record.specs.Writing.{Puts}
 use Rattle.canonical.specs.Working.{by_table}
 use Rattle.canonical.proofs.put_row.Given as goal
 

@@ -1,4 +1,4 @@
-use Rattle.record.specs.Working.{Puts}
+use Rattle.record.specs.Writing.{Puts}
 use Rattle.listing.specs.Text.{cells}
 use Rattle.listing.proofs.put_cells.Given as goal
 

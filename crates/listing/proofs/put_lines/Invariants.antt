@@ -1,4 +1,4 @@
-use Rattle.record.specs.Working.{Puts}
+use Rattle.record.specs.Writing.{Puts}
 use Rattle.listing.specs.Text.{lines}
 use Rattle.listing.proofs.put_lines.Given as goal
 

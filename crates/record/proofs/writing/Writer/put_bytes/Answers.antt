@@ -1,7 +1,7 @@
 use native.Mathlib.Omega.{arith}
 use mathlib.Core.Path.{refl}
 use Rattle.std.proofs.lemmas.Grind.{common_steps}
-use Rattle.record.specs.Working.{overwritten}
+use Rattle.record.specs.Writing.{overwritten}
 use Rattle.record.proofs.writing.Writer.put_bytes.Goals as goal
 
 pub returns : goal.returns

@@ -1,4 +1,4 @@
--- What functions that write bytes promise each other, here and above. No promise of a public call rests on these.
+-- What a writer of bytes asks and what it promises: the room for what is put, and the bytes behind those that were written before.
 use Rattle.std.specs.Prelude.{ℕ, ◌+◌, ◌≤◌, ◌≡◌, List, ◌++◌, length, take, drop}
 use Rattle.record.specs.declared.writing.Writer.{Writer}
 
