@@ -27,7 +27,6 @@ use Rattle.report.specs.declared.Drawing.TheVariants.{Absent, Given}
 use Rattle.report.specs.Report as reporting
 use Rattle.report.specs.Report.{Reported, number_only, fault_of, answer_with, drawing_number, fault_with, records, refused, reported, table_after}
 use Rattle.report.specs.Working.{drawing_reported}
-use Rattle.report.proofs.Records.{records_long}
 
 -- WHAT IS TOLD OF A NUMBER
 

@@ -1,6 +1,5 @@
 -- `report::put_records` meets its contract: the records of the nets passed stand in front of the old ones.
 use mathlib.Core.Path.{refl}
-use lib.ListN.{length}
 use native.Mathlib.Omega.{arith}
 use Rattle.report.specs.Report.{up_to}
 use Rattle.report.specs.Working.{in_tables}

@@ -1,15 +1,13 @@
 -- `report::report` meets its contract: the rows' refusal, then that of the table, then the checker's, else the records from the tables of each net's figures.
 use Prim.Native.Nat.{◌≤◌}
 use mathlib.Core.Path.{refl, ap, ◌∙◌}
-use mathlib.Core.List.{List, ◌++◌}
 use native.Mathlib.Omega.{arith}
-use lib.ListN.{length, drop}
+use lib.ListN.{length}
 use lib.Seq.{length-take-le}
 use Rattle.std.specs.Prelude.{Err}
 use Rattle.grid.proofs.Numbers.{passed_on}
 use Rattle.grid.proofs.Answers.{told_facts}
 use Rattle.checker.specs.Check.{fault_at}
-use Rattle.report.specs.declared.NetRecord.{NetRecord}
 use Rattle.report.specs.Report.{fault_of}
 use Rattle.report.proofs.Records.{gathered}
 use Rattle.report.proofs.WireLengths.{countable}
