@@ -14,20 +14,28 @@ use Rattle.listing.specs.Text.{cells, line_at, lines}
 use Rattle.listing.proofs.Digits.{decimal_small, decimal_large}
 use Rattle.listing.proofs.Front.{line_part}
 
--- a number below ten has its last digit alone
-small_digit : (n : ℕ) → n < 10 → (48 + n % 10) ∷ [] ≡ decimal n
-small_digit n h = ap (λ d. (48 + d) ∷ []) (let e : n % 10 ≡ n = omega arith in e) ∙ sym (decimal_small n h)
+-- a number below ten
+pub number_small : {u w : Writer} (n : ℕ) → n < 10 → Puts u ((48 + n) ∷ []) w → Puts u (decimal n) w
+number_small n h p = put_as p (decimal n) (sym (decimal_small n h))
 
-pub number_small : {u w : Writer} (n : ℕ) → n < 10 → Puts u ((48 + n % 10) ∷ []) w → Puts u (decimal n) w
-number_small n h p = put_as p (decimal n) (small_digit n h)
+-- a number of two digits
+two_digits : (n : ℕ) → 10 ≤ n → n ≤ 99 → (48 + n / 10) ∷ (48 + n % 10) ∷ [] ≡ decimal n
+two_digits n h l = sym (decimal_large n h ∙ ap (λ z. z ++ ((48 + n % 10) ∷ [])) (decimal_small (n / 10) (omega arith)))
+
+pub number_pair : {u w : Writer} (n : ℕ) → 10 ≤ n → n ≤ 99 → Puts u ((48 + n / 10) ∷ (48 + n % 10) ∷ []) w → Puts u (decimal n) w
+number_pair n h l p = put_as p (decimal n) (two_digits n h l)
 
 -- a number from ten on
 pub number_large : {u v w : Writer} (n : ℕ) → 10 ≤ n → Puts u (decimal (n / 10)) v → Puts v ((48 + n % 10) ∷ []) w → Puts u (decimal n) w
 number_large n h p q = put_as (put_then p q) (decimal n) (sym (decimal_large n h))
 
 -- room for its digit
-pub small_room : {w : Writer} (n : ℕ) → n < 10 → Room w (decimal n) → Room w ((48 + n % 10) ∷ [])
-small_room {w} n h r = subst (λ z. Room w z) (sym (small_digit n h)) r
+pub small_room : {w : Writer} (n : ℕ) → n < 10 → Room w (decimal n) → Room w ((48 + n) ∷ [])
+small_room {w} n h r = subst (λ z. Room w z) (decimal_small n h) r
+
+-- room for its two digits
+pub pair_room : {w : Writer} (n : ℕ) → 10 ≤ n → n ≤ 99 → Room w (decimal n) → Room w ((48 + n / 10) ∷ (48 + n % 10) ∷ [])
+pair_room {w} n h l r = subst (λ z. Room w z) (sym (two_digits n h l)) r
 
 -- room for the digits of the tenth part and the last one
 pub large_room : {w : Writer} (n : ℕ) → 10 ≤ n → Room w (decimal n) → Room w (decimal (n / 10) ++ ((48 + n % 10) ∷ []))

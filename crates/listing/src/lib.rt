@@ -18,15 +18,42 @@ use record::Writer;
 // The bytes of the text that a call is lent: the longest listing fits.
 pub const ROOM: usize = 131072;
 
-// A number in decimal.
+// A number of two digits.
+fn put_pair(text: &mut Writer, n: usize)
+    requires n_at_least { 10 ≤ n }
+    requires n_bound { n ≤ 99 }
+    requires room { Room text.old (decimal n) }
+    ensures { Puts text.old (decimal n) text.new }
+{
+    text.put_bytes(&[b'0' + (n / 10) as u8, b'0' + (n % 10) as u8]);
+}
+
+// A number of three digits or more.
+fn put_large(text: &mut Writer, n: usize)
+    requires n_at_least { 100 ≤ n }
+    requires room { Room text.old (decimal n) }
+    ensures { Puts text.old (decimal n) text.new }
+{
+    if n < 1000 {
+        put_pair(text, n / 10);
+    } else {
+        put_large(text, n / 10);
+    }
+    text.put_byte(b'0' + (n % 10) as u8);
+}
+
+// A number in decimal. One digit or two, as nearly all numbers of a drawing have, are put at once.
 fn put_number(text: &mut Writer, n: usize)
     requires { Room text.old (decimal n) }
     ensures { Puts text.old (decimal n) text.new }
 {
-    if n >= 10 {
-        put_number(text, n / 10);
+    if n < 10 {
+        text.put_byte(b'0' + n as u8);
+    } else if n < 100 {
+        put_pair(text, n);
+    } else {
+        put_large(text, n);
     }
-    text.put_byte(b'0' + (n % 10) as u8);
 }
 
 // A word and a number.
