@@ -2,8 +2,9 @@
 // cases in some words.
 #![tactic(auto)]
 
-ghost use Rattle.std.specs.Prelude.{◌≡◌, ◌+◌, ◌*◌, ◌^◌, ◌<◌, ◌≤◌, length};
+ghost use Rattle.std.specs.Prelude.{◌≡◌, ◌+◌, ◌*◌, ◌^◌, ◌<◌, ◌≤◌, length, MatchOption};
 ghost use Rattle.std.specs.Iterator.{at_most};
+ghost use Rattle.words.specs.Cases.{Begins};
 ghost use Rattle.words.specs.Words.{Decoded};
 
 // Room for the words of a drawing of 511 columns and 511 tracks. A function, since proofs about an array of this length take too long where they see it made.
@@ -60,6 +61,7 @@ pub struct Cases<'a, const N: usize> {
 impl<'a, const N: usize> Cases<'a, N> {
     pub fn new(words: &'a [u16]) -> Cases<'a, N>
         requires { N < 2 ^ 32 }
+        ensures { result.rest.now ≡ words.now }
     {
         Cases { rest: words }
     }
@@ -67,6 +69,9 @@ impl<'a, const N: usize> Cases<'a, N> {
 
 impl<'a, const N: usize> Iterator for Cases<'a, N> {
     type Item = Case<'a, N>;
+
+    ghost next_gives = { λ s r t. MatchOption r (t.rest.now ≡ s.rest.now)
+        (λ c. Begins N s.rest.now c.head.now c.top.now c.bottom.now c.layout.now t.rest.now) };
 
     ghost remaining = { λ s. at_most (length s.rest.now) };
 
